@@ -20,7 +20,7 @@ Text = Iterable[bytes]
 LINE = 40
 # the length of a long name, fixed because the report of a name that grew with the map would grow with its square
 LONG = 1 << 16
-# how many lines a program may collect before it looks for repeats, and how many of them it may look at
+# how many lines a program might collect before it looks for repeats, and how many of them it might look at
 PORTION, SAMPLE = 16_384, 4_096
 SIXTEEN = b"robot-of-the-ci-"
 THIRTY_TWO = SIXTEEN + b"and-of-releases-"
@@ -155,6 +155,11 @@ def long_name(count: int) -> Made:
     return Made([chain([b"L" * LONG, b" <a>\n"], numbered(b"x<a><%d>\n", range(count)))], count + 1)
 
 
+def kept_name(count: int) -> Made:
+    lines = numbered(b"<j%07d@x> <a@x>\n", range(count))
+    return Made([chain([b"N" * LONG + b" <a@x>\n"], lines)], count + 1)
+
+
 def long_answers(count: int) -> Made:
     return answered([b"L" * LONG, b" <a>\n"], 1, repeated(b"x<a>\n", 5 * count))
 
@@ -268,6 +273,7 @@ FAMILIES = [
     Family("random", "a line an email, in random order", lambda n: one_map(shuffled(n), n)),
     # first those that once fell short
     Family("long name", "a line with a name of 64 KiB, and short lines that map to it", long_name),
+    Family("kept name", "a line with a name of 64 KiB, and lines that give its email other emails", kept_name),
     Family("long answers", "a line with a name of 64 KiB, and short contacts that it maps", long_answers),
     Family("blank lines", "an entry, and blank lines", lambda n: Made([chain([entry(0)], repeated(b"\n", n))], 1)),
     Family("comments", "an entry, and lines `#`", lambda n: Made([chain([entry(0)], repeated(b"#\n", 2 * n))], 1)),

@@ -101,8 +101,16 @@ def traps() -> Iterator[Trap]:
     for length in [16, 17]:
         files = entries_in_files(8_000, length)
         yield Trap(f"8,000 files of {length} lines", files, [b"".join(files)], [CHECK, COMPACT], 1.3)
-    # The plain mailmap has its texts in the file and in the snapshot. A batch of the repeats is merged separately,
-    # which takes one more copy of the texts, and the entries of the batch.
+    # The name isn't copied again for each line that gives the email another new one.
+    yield Trap(
+        "a long name that many lines leave as it is",
+        [name + b" <a>\n" + b"<b> <a>\n" * 5_000],
+        [name + b" <a>\n" + comment(8 * 5_000)],
+        [CHECK, COMPACT],
+        2,
+    )
+    # The plain mailmap has its texts in the file and in the snapshot. The repeats take some 120 bytes each until they
+    # are combined.
     repeats = short_lines(b"a<b>\n", 3 * MEGABYTE)
     yield Trap(
         "long texts, then repeats",

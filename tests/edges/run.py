@@ -19,6 +19,7 @@ import many
 import paths
 import reads
 import runs
+import tasks
 from measuring import scratch
 from ways import CONTACTS, MAILMAP, PROGRAMS
 
@@ -34,7 +35,7 @@ def main(programs):
             shutil.copy(program, name)
         Path("mailmap").write_bytes(MAILMAP)
         Path("contacts").write_bytes(CONTACTS)
-        for line in itertools.chain(paths.shows(), reads.shows(), many.shows()):
+        for line in itertools.chain(paths.shows(), tasks.shows(), reads.shows(), many.shows()):
             print(line if runs.failed == failed else f"FAILED: {line}", flush=True)
             failed = runs.failed
         os.chdir("/")

@@ -1,8 +1,8 @@
 """The model of `mailmap_verify --explain` and `--contacts`.
 
 The definitions are in `specs` of `mailmap_redundancy` (`Origins`), `mailmap_findings` (`Explanations`, `Needs`,
-`Remarks`), `mailmap_contacts` (`Contacts`, `Proper`, `Comparisons`), `mailmap_suggestions` (`Counted`) and
-`verify_command` (`Explained`, `Contacts`).
+`Remarks`), `contact_counter` (`Contacts`), `mailmap_contacts` (`Proper`, `Comparisons`), `mailmap_suggestions`
+(`Counted`) and `verify_command` (`Explained`, `Report`).
 """
 from typing import NamedTuple
 

@@ -1,1 +1,1 @@
-mod MergedEntries
+mod NormalLists

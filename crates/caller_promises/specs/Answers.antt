@@ -5,7 +5,7 @@ use Rattle.gix_mailmap.specs.Entries.{Mapping}
 use Rattle.gix_mailmap.specs.Search.{digits}
 use Rattle.gix_mailmap.specs.SignatureFields.{cow_fields, owned_fields}
 use Rattle.gix_mailmap.specs.Signatures.{email_count, name_count, resolved_fields}
-use Rattle.mailmap_signatures.specs.declared.actor.SignatureRef.{SignatureRef}
+use Rattle.mailmap_snapshot.specs.declared.actor.SignatureRef.{SignatureRef}
 use Rattle.caller_promises.specs.declared.answers.Lookups.{Lookups}
 use Rattle.caller_promises.specs.declared.answers.Signatures.{Signatures}
 

@@ -1,4 +1,4 @@
 pub mod Answers
-pub mod Batches
+pub mod Calls
 pub mod Pruned
 pub mod Listings

@@ -1,17 +1,17 @@
 -- What the two modes write, by the library's answers and compact mailmaps.
-use Rattle.std.specs.Prelude.{◌≡◌, ℕ, List, [], ◌∷◌, Option, None, Some, IsNone, Result, IfErr, OnOk, map, option_map, ⊤}
+use Rattle.std.specs.Prelude.{◌≡◌, ℕ, List, [], ◌∷◌, ◌++◌, Option, None, Some, IsNone, Result, IfErr, OnOk, map, option_map, ⊤}
 use Rattle.std.specs.Borrow.{Bor}
-use Rattle.std.specs.Io.KnownBytes.{Consumes, IsAtEnd}
+use Rattle.std.specs.Io.KnownBytes.{Appends, Consumes, IsAtEnd}
 use Rattle.std.specs.List.{flat_map}
 use Rattle.std.specs.Result.{IsErr, IsErrOf}
 use Rattle.command_line.specs.Failures.{IsOfInput}
 use Rattle.command_line.specs.Printing.{Prints, PrintsFront}
 use Rattle.command_line.specs.declared.failure.Failure.{Failure}
 use Rattle.command_line.specs.declared.failure.Failure.TheVariants.{Memory, Output}
-use Rattle.mailmap_snapshot.specs.Contacts.{answers_by}
+use Rattle.mailmap_snapshot.specs.Contacts.{answers, answers_by}
 use Rattle.mailmap_snapshot.specs.Lines.{HoldsNo, mappings_of}
 use Rattle.mailmap_snapshot.specs.Parts.{IsSplit}
-use Rattle.mailmap_snapshot.specs.Streams.{AnswersFront}
+use Rattle.mailmap_snapshot.specs.Streams.{AnswersFront, Stream}
 use Rattle.mailmap_snapshot.specs.Writing.{IsCompacted}
 
 -- the bytes of the files, if there are files
@@ -38,6 +38,18 @@ abbrev pub AnswersWholeLines : Option (List (List ℕ)) → Option (List ℕ) �
 AnswersWholeLines (Some buffers) old new text = (read rest : List ℕ)
     × Consumes old new read × AnswersFront (flat_map mappings_of buffers) read text rest × HoldsNo 10 rest
 AnswersWholeLines None old new text = text ≡ []
+
+-- the text answers whole lines at the start of the bytes, which come after those that the stream kept
+abbrev pub AnswersSome : Stream → List ℕ → List ℕ → Type 0
+AnswersSome s bytes text = (rest : List ℕ) × AnswersFront s.mappings (s.kept ++ bytes) text rest
+
+-- The stream `old` has become `new` by these bytes, and the answers to all whole lines were written.
+pub record HasAnswered (old : Stream) (bytes : List ℕ) (new : Stream) (before after : Option (List ℕ)) : Type 0 where
+  pub made : List ℕ
+  pub front : AnswersFront old.mappings (old.kept ++ bytes) made new.kept
+  pub no_feed : HoldsNo 10 old.kept → HoldsNo 10 new.kept
+  pub same : (text : List ℕ) → answers new.mappings text ≡ answers old.mappings text
+  pub written : Appends before after made
 
 -- The text is the compact mailmap of the files, or without files of all of the input, if that is known.
 abbrev pub IsMailmap : Option (List (List ℕ)) → Option (List ℕ) → List ℕ → Type 0

@@ -15,8 +15,7 @@ some_unless_empty [] = None
 some_unless_empty (first ∷ rest) = Some (first ∷ rest)
 
 -- The text is made from the contents of the files at these paths, or without files if there are no paths.
-abbrev pub OfFiles : (List ℕ → AtPath) → List (List ℕ)
-    → (Option (List (List ℕ)) → List ℕ → Type 0) → List ℕ → Type 0
+abbrev pub OfFiles : (List ℕ → AtPath) → List (List ℕ) → (Option (List (List ℕ)) → List ℕ → Type 0) → List ℕ → Type 0
 OfFiles at paths IsText text = (contents : List (List ℕ))
     × AreRead at paths contents × IsText (some_unless_empty contents) text
 
@@ -26,6 +25,5 @@ abbrev pub LeavesAnswersBy : {W T : Type 0} → (List ℕ → AtPath) → List (
 LeavesAnswersBy at paths unread left contents old new result = LeavesAnswers
     (OfFiles at paths (λ files. AnswersContacts files unread))
     (OfFiles at paths (λ files. AnswersWholeLines files unread left))
-    ((new ≡ old) ⊎ Prints (OfFiles at paths (λ files. AnswersLines files unread left))
-    (contents old) (contents new))
+    ((new ≡ old) ⊎ Prints (OfFiles at paths (λ files. AnswersLines files unread left)) (contents old) (contents new))
     left (contents old) (contents new) result

@@ -7,12 +7,11 @@
 ghost use Rattle.std.specs.Prelude.{◌≡◌, ◌++◌, ◌⊎◌, List, ℕ, IfErr, IfOk, IsErrOf, IsNone, None, IsSome, OnOk, Some, map, take};
 ghost use Rattle.std.specs.Io.KnownBytes.{Appends, IsAtEnd};
 ghost use Rattle.mailmap_snapshot.specs.Contacts.{answers};
-ghost use Rattle.mailmap_snapshot.specs.Lines.{HoldsNo};
-ghost use Rattle.mailmap_snapshot.specs.Streams.{AnswersFront};
 ghost use Rattle.command_line.specs.Failures.{IsOfInput};
 ghost use Rattle.command_line.specs.Leaving.{LeavesText};
 ghost use Rattle.command_line.specs.Printing.{Prints, PrintsFront};
-ghost use Rattle.check_command.specs.Run.{file_bytes, AnswersContacts, AnswersLines, AnswersWholeLines, IsMailmap, LeavesContacts};
+ghost use Rattle.check_command.specs.Run.{file_bytes, AnswersContacts, AnswersLines, AnswersWholeLines, IsMailmap};
+ghost use Rattle.check_command.specs.Run.{AnswersSome, HasAnswered, LeavesContacts};
 
 use command_line::failure::Failure;
 use command_line::streams::{flush, read_input, read_part, write_all, write_unflushed};
@@ -94,17 +93,11 @@ fn answer_part<W: Write>(
     output: &mut W,
 ) -> Result<(), Failure>
     ensures ok { OnOk result
-        (Prints (λ made. AnswersFront stream.old.mappings (stream.old.kept ++ part.now) made stream.new.kept)
-        (W.contents output.old) (W.contents output.new)) }
-    ensures keeps { OnOk result ((HoldsNo 10 stream.old.kept → HoldsNo 10 stream.new.kept)
-        × (stream.new.mappings ≡ stream.old.mappings)) }
+        (HasAnswered stream.old part.now stream.new (W.contents output.old) (W.contents output.new)) }
     ensures memory_fails { IsErrOf result Failure.Memory
-        → Prints (λ made. (rest : List ℕ) × AnswersFront stream.old.mappings (stream.old.kept ++ part.now) made rest)
-        (W.contents output.old) (W.contents output.new) }
+        → Prints (AnswersSome stream.old part.now) (W.contents output.old) (W.contents output.new) }
     ensures breaks_off { IsErrOf result Failure.Output
-        → PrintsFront
-        (λ made. (rest : List ℕ) × AnswersFront stream.old.mappings (stream.old.kept ++ part.now) made rest)
-        (W.contents output.old) (W.contents output.new) }
+        → PrintsFront (AnswersSome stream.old part.now) (W.contents output.old) (W.contents output.new) }
     ensures only { IfErr result (λ e. (e ≡ Failure.Memory) ⊎ (e ≡ Failure.Output)) }
 {
     let mut taken = 0;

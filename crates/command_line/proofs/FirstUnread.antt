@@ -4,23 +4,23 @@ use Rattle.command_line.specs.Files.{AtPath, Bytes, Fails, FailsWith, Gives, IsO
 use Rattle.command_line.specs.declared.failure.Failure.{Failure}
 use Rattle.command_line.specs.declared.failure.Failure.TheVariants.{File, Input, Memory, Output}
 
-pub may_read : (held : AtPath) (contents : List ℕ) → Gives held contents → MayRead held
+may_read : (held : AtPath) (contents : List ℕ) → Gives held contents → MayRead held
 may_read (Bytes bytes) contents gives = tt
 may_read (Fails cause) contents gives = gives
 may_read Unknown contents gives = tt
 
 -- the file after those that were read
-pub first_unread : (at : List ℕ → AtPath) (paths : List (List ℕ)) (index : ℕ) (e : Failure) → index < length paths
-    → ((k : ℕ) → k < index → MayRead (at (get_or paths k []))) → IsOfNumber (at (get_or paths index [])) (index + 1) e → NamesFile at paths e
-first_unread at paths index (File number cause) within before (is, fails, no_memory) =
+pub first_unread : (at : List ℕ → AtPath) (paths contents : List (List ℕ)) (index : ℕ) (e : Failure) → index < length paths
+    → ((k : ℕ) → k < index → Gives (at (get_or paths k [])) (get_or contents k [])) → IsOfNumber (at (get_or paths index [])) (index + 1) e → NamesFile at paths e
+first_unread at paths contents index (File number cause) within before (is, fails, no_memory) =
     let same : index ≡ number - 1 = omega arith in
     record {
       from_one = omega arith;
       within = omega arith;
       fails = subst (λ n. FailsWith (at (get_or paths n [])) cause) same fails;
-      before = λ k less. before k (omega arith);
+      before = λ k less. may_read _ (get_or contents k []) (before k (omega arith));
       no_memory = no_memory;
     }
-first_unread at paths index (Input cause) within before of = tt
-first_unread at paths index Memory within before of = tt
-first_unread at paths index Output within before of = tt
+first_unread at paths contents index (Input cause) within before of = tt
+first_unread at paths contents index Memory within before of = tt
+first_unread at paths contents index Output within before of = tt

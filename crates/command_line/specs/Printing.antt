@@ -11,5 +11,7 @@ abbrev pub PrintsFront : (List ℕ → Type 0) → Option (List ℕ) → Option 
 PrintsFront IsText old new = (text : List ℕ) × IsText text × ((count : ℕ) × Appends old new (take count text))
 
 -- a prefix of the text is written, and the rest is held
-abbrev pub IsUnderway : List ℕ → Option (List ℕ) → Option (List ℕ) → List ℕ → Type 0
-IsUnderway text old new held = (written : List ℕ) × Appends old new written × (text ≡ written ++ held)
+pub record IsUnderway (text : List ℕ) (old new : Option (List ℕ)) (held : List ℕ) : Type 0 where
+  pub written : List ℕ
+  pub appended : Appends old new written
+  pub whole : text ≡ written ++ held

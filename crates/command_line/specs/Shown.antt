@@ -14,6 +14,10 @@ hex_byte byte = hex_digit (byte / 16) ∷ hex_digit (byte % 16) ∷ []
 abbrev pub is_control : ℕ → Bool
 is_control code = nat_lt code 32 || (nat_lt 126 code && nat_lt code 160)
 
+-- a byte that isn't printable ASCII
+abbrev pub is_special : ℕ → Bool
+is_special byte = nat_lt byte 32 || nat_lt 126 byte
+
 -- a character that turns the direction of text
 abbrev pub turns_text : ℕ → Bool
 turns_text char = char == 0x61C || char == 0x200E || char == 0x200F || (nat_le 0x202A char && nat_le char 0x202E)
@@ -27,10 +31,8 @@ shown_byte byte = if is_control byte then 92 ∷ 120 ∷ hex_byte byte else byte
 -- characters, control bytes are escaped.
 abbrev pub shown_piece : Option ℕ → List ℕ → List ℕ
 shown_piece None bytes = flat_map shown_byte bytes
-shown_piece (Some char) bytes =
-    if nat_lt char 128 then flat_map shown_byte bytes
-    else if is_control char || turns_text char then 92 ∷ 117 ∷ hex_byte (char / 256) ++ hex_byte (char % 256)
-    else bytes
+shown_piece (Some char) bytes = if nat_lt char 128 then flat_map shown_byte bytes
+    else if is_control char || turns_text char then 92 ∷ 117 ∷ hex_byte (char / 256) ++ hex_byte (char % 256) else bytes
 
 -- a text that begins with these pieces, one after another
 abbrev pub shown_pieces : List Decoded → List ℕ → List ℕ

@@ -4,7 +4,7 @@ ghost use Rattle.std.specs.Io.KnownBytes.{Appends};
 ghost use Rattle.command_line.specs.Printing.{IsUnderway};
 
 use crate::failure::Failure;
-use crate::streams::{flush, write_unflushed};
+use crate::streams::{write_all, write_unflushed};
 use std::alloc::{AllocError, Global};
 use std::io::Write;
 use std::marker::Model;
@@ -76,8 +76,9 @@ impl Printer {
         ensures empty { self.new ≡ [] }
         ensures only { IsOkUnless result Failure.Output }
     {
-        self.write_out(output)?;
-        flush(output)
+        let written = write_all(output, self.held.as_slice());
+        self.held.clear();
+        written
     }
 
     // Buffers the piece if it fits, and returns whether it did.

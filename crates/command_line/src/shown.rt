@@ -1,7 +1,8 @@
 //! Escapes what could control a terminal, so that texts can be shown in one.
 ghost use Rattle.std.specs.Prelude.{◌≡◌, ◌<◌, ◌/◌, ◌%◌, ◌++◌, ◌∷◌, OnOk, false};
-ghost use Rattle.std.specs.List.{flat_map};
-ghost use Rattle.command_line.specs.Shown.{hex_byte, hex_digit, is_control, shown, shown_byte, shown_piece, turns_text};
+ghost use Rattle.std.specs.List.{flat_map, list_any};
+ghost use Rattle.command_line.specs.Shown.{hex_byte, hex_digit, is_control, is_special, shown, shown_byte, shown_piece};
+ghost use Rattle.command_line.specs.Shown.{turns_text};
 
 use bstr::decode_utf8;
 use std::alloc::AllocError;
@@ -23,16 +24,18 @@ pub fn push_shown(line: &mut Vec<u8>, text: &[u8]) -> Result<(), AllocError>
     Ok(())
 }
 
-/// Whether a text has a byte below 32 or from 127 to 159. A text without one is shown unchanged.
+/// Whether a text has a byte below 32 or above 126. A text without one is shown unchanged.
+#[tactic(auto, using(crate::proofs::Escapes::plain))]
 pub fn may_need_escapes(text: &[u8]) -> bool
     ensures { result ≡ false → shown text.now ≡ text.now }
 {
-    for byte in text {
-        if is_control(u32::from(*byte)) {
-            return true;
-        }
-    }
-    false
+    has_special_byte(text)
+}
+
+fn has_special_byte(text: &[u8]) -> bool
+    ensures { result ≡ list_any is_special text.now }
+{
+    text.iter().any(|byte| *byte < 32 || 126 < *byte)
 }
 
 // Appends a character, or bytes that are none.

@@ -1,13 +1,14 @@
 -- A line means the same without its ignored text.
-use Rattle.std.proofs.Common.{◌≡◌, ℕ, true, false, true≢false, cond, Option, Some, None, Ok, List, [], ◌∷◌, ◌++◌, append-nil, append_assoc, refl, sym, ap, subst, ◌∙◌, arith}
+use Rattle.std.proofs.Common.{◌≡◌, ◌≢◌, ℕ, true, false, true≢false, Some, Ok, List, [], ◌∷◌, ◌++◌, length, length-append, append-nil, append_assoc, inl, ⊎_elim, refl, sym, ap, subst, ◌∙◌, arith}
 use Rattle.std.specs.Char.{encode_utf8}
 use Rattle.std.specs.Str.{encode_utf8_all}
 use Rattle.mailmap_entries.specs.Entries.{Mapping}
 use Rattle.mailmap_entries.specs.Folding.{Text}
-use Rattle.mailmap_grammar.specs.Lines.{Absent, Closed, IsCut, FaultKind, ParsedContact, Reading, Unclosed, empty_email, fault, missing_closing_bracket, no_email, nothing_to_map, unclosed_second, after_second, cut, first_contact, is_comment, strict_contacts, strict_line_reading, strict_reading, trailing_text, trimmed_contact, unless_blank}
-use Rattle.mailmap_grammar.specs.Trimming.{AreWhite, EndsWhite, trim}
-use Rattle.mailmap_grammar.proofs.Cut.{absent_kind, closed_kind, cut-absent, cut-cut_at_closing, kind, unclosed_kind}
-use Rattle.mailmap_grammar.proofs.Trimmed.{trim-white_end, trim-white_start, trimmed-made}
+use Rattle.mailmap_grammar.specs.Lines.{Absent, Closed, IsComment, IsContact, IsSecondReadStrictly, IsUnclosed, NoContact, Reading, Unclosed, after_second, as_lenient, blank, blank_email, by_both, by_name, comment, cut, first, name_alone, neither, no_bracket, non_blank, open_first, open_second, second, strict_reading}
+use Rattle.mailmap_grammar.specs.Trimming.{AreWhite, EndsWhite, IsTrimmed, trim}
+use Rattle.mailmap_grammar.proofs.Cut.{cut-absent, cut-cut_at_closing, cut-unclosed}
+use Rattle.mailmap_grammar.proofs.Grammar.{strict_reading-made, strict_reading-same}
+use Rattle.mailmap_grammar.proofs.Trimmed.{trim-white_end, trim-white_start, trimmed-made, trimmed-same}
 use Rattle.mailmap_findings.specs.Findings.{ignored}
 use Rattle.gix_mailmap.specs.IgnoredText.{ReadsWithoutIgnored}
 use Rattle.mailmap_snapshot.proofs.WhiteEnds.{BeginsWhite-trimmed, EndsWhite-ascii, trim-nil, trim-stays, trim-trim}
@@ -25,9 +26,9 @@ white_end (c ∷ cs) s all =
 
 -- ---- a line split into what counts and the rest
 
-same_comment : (p q x y : Text) (b : ℕ) → is_comment ((p ++ b ∷ q) ++ x) ≡ is_comment ((p ++ b ∷ q) ++ y)
-same_comment [] q x y b = refl
-same_comment (z ∷ p) q x y b = refl
+same_comment : (p q x y : Text) (b : ℕ) → IsComment ((p ++ b ∷ q) ++ x) → IsComment ((p ++ b ∷ q) ++ y)
+same_comment [] q x y b (after, is) = let first : b ≡ 35 = cc in (q ++ y, ap (λ c. c ∷ (q ++ y)) first)
+same_comment (z ∷ p) q x y b (after, is) = let first : z ≡ 35 = cc in ((p ++ b ∷ q) ++ y, ap (λ c. c ∷ ((p ++ b ∷ q) ++ y)) first)
 
 -- the line without the rest, which leaves what counts
 record Without (line counts rest : Text) : Type 0 where
@@ -35,13 +36,12 @@ record Without (line counts rest : Text) : Type 0 where
   back : Text
   whole : line ≡ front ++ (trim rest ++ back)
   blank : trim back ≡ []
-  comment : is_comment (front ++ back) ≡ is_comment line
+  comment : IsComment (front ++ back) → IsComment line
   left : trim (front ++ back) ≡ counts
 
 -- what counts doesn't begin with white space if the line doesn't, and ends with `>`
 stays : (line a u k rest : Text) → trim line ≡ (a ++ 60 ∷ u) ++ rest → a ++ 60 ∷ u ≡ k ++ 62 ∷ [] → trim (a ++ 60 ∷ u) ≡ a ++ 60 ∷ u
-stays line a u k rest parts closed =
-    trim-stays (a ++ 60 ∷ u)
+stays line a u k rest parts closed = trim-stays (a ++ 60 ∷ u)
     (λ h. BeginsWhite-trimmed (trim line) (sym (trim-trim line))
     (h.0, h.1 ++ rest, h.2, parts ∙ ap (λ s. s ++ rest) h.3 ∙ append_assoc (encode_utf8 h.0) h.1 rest))
     (λ h. let visible : false ≡ true = EndsWhite-ascii 62 k (omega arith) (subst EndsWhite closed h) in true≢false (sym visible))
@@ -68,17 +68,10 @@ without line a u k rest parts closed =
       back = back;
       whole = whole;
       blank = white_end outer.2.white v2 outer.2.are_white ∙ white_end inner.2.white [] inner.2.are_white ∙ trim-nil;
-      comment =
-          ap (λ f. is_comment (f ++ back)) first
-          ∙ same_comment (w1 ++ a) (u ++ v1) back (trim rest ++ back) 60
-          ∙ ap (λ f. is_comment (f ++ (trim rest ++ back))) (sym first)
-          ∙ ap is_comment (sym whole);
-      left =
-          ap trim sides
-          ∙ white_start outer.1.white (((counts ++ v1) ++ v2) ++ w2) outer.1.are_white
+      comment = λ h. subst IsComment (sym whole) (rw first (same_comment (w1 ++ a) (u ++ v1) back (trim rest ++ back) 60 (rw first at h)));
+      left = ap trim sides ∙ white_start outer.1.white (((counts ++ v1) ++ v2) ++ w2) outer.1.are_white
           ∙ white_end outer.2.white ((counts ++ v1) ++ v2) outer.2.are_white
-          ∙ white_end inner.2.white (counts ++ v1) inner.2.are_white
-          ∙ white_end inner.1.white counts inner.1.are_white
+          ∙ white_end inner.2.white (counts ++ v1) inner.2.are_white ∙ white_end inner.1.white counts inner.1.are_white
           ∙ stays line a u k rest parts closed;
     }
   where
@@ -93,125 +86,74 @@ without line a u k rest parts closed =
 
 -- ---- the reading of the line
 
--- a blank line and a fault have no entry
-no_entry : (o : Option Reading) (e : Mapping) → o ≡ None → o ≡ Some (Ok e) → ⊥
-no_entry o e none is = cc
+-- the same contact, followed by another text
+followed : {s name email rest : Text} (c : IsContact s name email rest) (tail : Text) → IsContact (c.before ++ 60 ∷ (c.between ++ 62 ∷ tail)) name email tail
+followed c tail = record {
+  before = c.before;
+  between = c.between;
+  is_cut = record { whole = refl; no_opening = c.is_cut.no_opening; no_closing = c.is_cut.no_closing };
+  is_name = c.is_name;
+  is_email = c.is_email;
+}
 
-says_fault : (k : FaultKind) (n : ℕ) (t : Text) (e : Mapping) → fault k n t ≡ Ok e → ⊥
-says_fault k n t e is = cc
+contact_cut : {s name email rest : Text} (c : IsContact s name email rest) → cut s ≡ Closed c.before c.between rest
+contact_cut c = cut-cut_at_closing _ _ _ _ c.is_cut
 
--- the reading of a trimmed line t with this first contact
-abbrev contact_reading : ℕ → Text → Text → Text → Text → Reading
-contact_reading n t name email rest = first_contact (λ name email rest. strict_contacts n t name email rest (trimmed_contact (cut rest))) n t (Closed name email rest)
-
-first_said : (n : ℕ) (t : Text) (h : ParsedContact) → cut t ≡ h → strict_line_reading n t ≡ first_contact (λ name email rest. strict_contacts n t name email rest (trimmed_contact (cut rest))) n t (trimmed_contact h)
-first_said n t h is = ap (λ g. first_contact (λ name email rest. strict_contacts n t name email rest (trimmed_contact (cut rest))) n t (trimmed_contact g)) is
-
-closed_said : (n : ℕ) (t a b rest : Text) → cut t ≡ Closed a b rest → strict_line_reading n t ≡ contact_reading n t (trim a) (trim b) rest
-closed_said n t a b rest is = first_said n t (Closed a b rest) is
-
--- a line with one contact has the same entry with any text after it
-one_contact : (n : ℕ) (t k name email rest : Text) (e : Mapping) → cut rest ≡ Absent → contact_reading n t name email rest ≡ Ok e → contact_reading n k name email [] ≡ Ok e
-one_contact n t k name [] rest e none is = absurd (says_fault empty_email n t e is)
-one_contact n t k [] (x ∷ email) rest e none is =
-    absurd (says_fault nothing_to_map n t e (ap (λ h. strict_contacts n t [] (x ∷ email) rest (trimmed_contact h)) (sym none) ∙ is))
-one_contact n t k (y ∷ name) (x ∷ email) rest e none is =
-    let f : strict_contacts n t (y ∷ name) (x ∷ email) rest Absent ≡ Ok e = ap (λ h. strict_contacts n t (y ∷ name) (x ∷ email) rest (trimmed_contact h)) (sym none) ∙ is in
-    ap (λ h. strict_contacts n k (y ∷ name) (x ∷ email) [] (trimmed_contact h)) (cut-absent [] tt) ∙ f
-
--- a line with two contacts has the same entry with any text after them
-two_contacts_alike : (n : ℕ) (t k name email rest other a b c d : Text) (e : Mapping) → cut rest ≡ Closed a b c → cut other ≡ Closed a b d → contact_reading n t name email rest ≡ Ok e → contact_reading n k name email other ≡ Ok e
-two_contacts_alike n t k name [] rest other a b c d e first second is = absurd (says_fault empty_email n t e is)
-two_contacts_alike n t k [] (x ∷ email) rest other a b c d e first second is =
-    ap (λ h. strict_contacts n k [] (x ∷ email) other (trimmed_contact h)) second
-    ∙ ap (λ h. strict_contacts n t [] (x ∷ email) rest (trimmed_contact h)) (sym first)
-    ∙ is
-two_contacts_alike n t k (y ∷ name) (x ∷ email) rest other a b c d e first second is =
-    ap (λ h. strict_contacts n k (y ∷ name) (x ∷ email) other (trimmed_contact h)) second
-    ∙ ap (λ h. strict_contacts n t (y ∷ name) (x ∷ email) rest (trimmed_contact h)) (sym first)
-    ∙ is
-
--- a second contact without `>` is a fault
-not_open : (n : ℕ) (t name email rest : Text) (e : Mapping) → cut rest ≡ Unclosed → contact_reading n t name email rest ≡ Ok e → ⊥
-not_open n t name [] rest e unclosed is = says_fault empty_email n t e is
-not_open n t name (x ∷ email) rest e unclosed is =
-    says_fault unclosed_second n rest e (ap (λ h. strict_contacts n t name (x ∷ email) rest (trimmed_contact h)) (sym unclosed) ∙ is)
-
--- ---- the line without the ignored text
-
-some : (says : ℕ → Text → Reading) (n : ℕ) (p q : Text) (b : ℕ) → unless_blank says n (p ++ b ∷ q) ≡ Some (says n (p ++ b ∷ q))
-some says n [] q b = refl
-some says n (x ∷ p) q b = refl
-
-module _ (n : ℕ) (line : Text) (e : Mapping) (no_comment : is_comment line ≡ false) where
-  made : (a u k rest : Text) → trim line ≡ (a ++ 60 ∷ u) ++ rest → a ++ 60 ∷ u ≡ k ++ 62 ∷ [] → ignored line ≡ trim rest
-      → strict_line_reading n (a ++ 60 ∷ u) ≡ Ok e → trim (trailing_text (cut (a ++ 60 ∷ u))) ≡ [] → ReadsWithoutIgnored n line e
-  made a u k rest parts closed is says none =
-      let w = without line a u k rest parts closed in
+module _ (n : ℕ) (line : Text) (e : Mapping) (plain : IsComment line → ⊥) (t : Text) (trimmed : IsTrimmed line t) {name email rest : Text} (c : IsContact t name email rest) (some : email ≢ []) where
+  -- without the text after `tail`, which is what is left of the text after the first contact
+  made : (tail k after : Text) → rest ≡ tail ++ after → c.before ++ 60 ∷ (c.between ++ 62 ∷ tail) ≡ k ++ 62 ∷ []
+      → IsSecondReadStrictly n (c.before ++ 60 ∷ (c.between ++ 62 ∷ tail)) name email tail (Ok e) → after_second rest (cut rest) ≡ after → after_second tail (cut tail) ≡ [] → ReadsWithoutIgnored n line e
+  made tail k after parts closed reads is none =
+      let counts : Text = c.before ++ 60 ∷ (c.between ++ 62 ∷ tail) in
+      let same : t ≡ trim line = trimmed-same line t trimmed in
+      let whole : trim line ≡ counts ++ after = sym same ∙ c.is_cut.whole ∙ rw parts (simp append_assoc) in
+      let w = without line c.before (c.between ++ 62 ∷ tail) k after whole closed in
+      let left_out : ignored line ≡ trim after = rw (← same, contact_cut c, is) refl in
       record {
         front = w.front;
         back = w.back;
-        whole = w.whole ∙ ap (λ t. w.front ++ (t ++ w.back)) (sym is);
+        whole = rw left_out w.whole;
         blank = w.blank;
-        reads =
-            ap (λ b. cond b None (unless_blank strict_line_reading n (trim (w.front ++ w.back)))) (w.comment ∙ no_comment)
-            ∙ ap (unless_blank strict_line_reading n) w.left
-            ∙ some strict_line_reading n a u 60
-            ∙ ap (λ r. Some r) says;
-        none = ap (λ t. trim (trailing_text (cut t))) w.left ∙ none;
+        reads = strict_reading-same n (w.front ++ w.back) _ (non_blank counts (Ok e) (λ h. plain (w.comment h)) (trimmed-made _ counts (sym w.left))
+            (λ empty. absurd (omega (arith, ap length empty, length-append c.before (60 ∷ (c.between ++ 62 ∷ tail))))) (first name email tail (followed c tail) some reads) refl);
+        none = rw (w.left, contact_cut (followed c tail), none) trim-nil;
       }
 
-  -- the law for a line with one contact
-  one : (a b rest : Text) → IsCut (trim line) a b rest → cut (trim line) ≡ Closed a b rest → cut rest ≡ Absent → strict_line_reading n (trim line) ≡ Ok e → ReadsWithoutIgnored n line e
-  one a b rest is_cut first second is =
-      let counts : Text = a ++ 60 ∷ (b ++ 62 ∷ []) in
-      let counted : cut counts ≡ Closed a b [] = cut-cut_at_closing counts a b [] (record { whole = refl; no_opening = is_cut.no_opening; no_closing = is_cut.no_closing }) in
-      let parts : trim line ≡ counts ++ rest = is_cut.whole ∙ sym (append_assoc a (60 ∷ (b ++ 62 ∷ [])) rest ∙ ap (λ s. a ++ 60 ∷ s) (append_assoc b (62 ∷ []) rest)) in
-      made a (b ++ 62 ∷ []) (a ++ 60 ∷ b) rest parts (sym (append_assoc a (60 ∷ b) (62 ∷ [])))
-      (ap (λ h. trim (trailing_text h)) first ∙ ap (λ h. trim (after_second rest h)) second)
-      (closed_said n counts a b [] counted ∙ one_contact n (trim line) counts (trim a) (trim b) rest e second (sym (closed_said n (trim line) a b rest first) ∙ is))
-      (ap (λ h. trim (trailing_text h)) counted ∙ ap (λ h. trim (after_second [] h)) (cut-absent [] tt) ∙ trim-nil)
+  -- a line with one contact
+  one : NoContact rest → name ≢ [] → ◌≡◌ {A = Reading} (Ok e) (Ok (by_name name email)) → ReadsWithoutIgnored n line e
+  one none named is =
+      let closed : IsUnclosed [] → ⊥ = λ u. let wrong : Absent ≡ Unclosed = sym (cut-absent [] tt) ∙ cut-unclosed [] u in cc in
+      made [] (c.before ++ 60 ∷ c.between) rest refl (simp append_assoc) (as_lenient closed (name_alone (inl tt) named is))
+      (⊎_elim (λ h. ap (after_second rest) (cut-absent rest h)) (λ u. ap (after_second rest) (cut-unclosed rest u)) none)
+      (ap (after_second []) (cut-absent [] tt))
 
-  -- the law for a line with two contacts
-  two : (a b rest c d more : Text) → IsCut (trim line) a b rest → cut (trim line) ≡ Closed a b rest → IsCut rest c d more → cut rest ≡ Closed c d more → strict_line_reading n (trim line) ≡ Ok e
-      → ReadsWithoutIgnored n line e
-  two a b rest c d more is_cut first is_second second is =
-      let other : Text = c ++ 60 ∷ (d ++ 62 ∷ []) in
-      let counts : Text = a ++ 60 ∷ (b ++ 62 ∷ other) in
-      let others : cut other ≡ Closed c d [] = cut-cut_at_closing other c d [] (record { whole = refl; no_opening = is_second.no_opening; no_closing = is_second.no_closing }) in
-      let counted : cut counts ≡ Closed a b other = cut-cut_at_closing counts a b other (record { whole = refl; no_opening = is_cut.no_opening; no_closing = is_cut.no_closing }) in
-      let parts : trim line ≡ counts ++ more = is_cut.whole ∙ ap (λ s. a ++ 60 ∷ (b ++ 62 ∷ s)) is_second.whole ∙ join a b c d more in
-      made a (b ++ 62 ∷ other) (a ++ 60 ∷ (b ++ 62 ∷ (c ++ 60 ∷ d))) more parts (close a b c d)
-      (ap (λ h. trim (trailing_text h)) first ∙ ap (λ h. trim (after_second rest h)) second)
-      (closed_said n counts a b other counted
-      ∙ two_contacts_alike n (trim line) counts (trim a) (trim b) rest other c d more [] e second others (sym (closed_said n (trim line) a b rest first) ∙ is))
-      (ap (λ h. trim (trailing_text h)) counted ∙ ap (λ h. trim (after_second other h)) others ∙ trim-nil)
-    where
-      join : (a b c d more : Text) → a ++ 60 ∷ (b ++ 62 ∷ (c ++ 60 ∷ (d ++ 62 ∷ more))) ≡ (a ++ 60 ∷ (b ++ 62 ∷ (c ++ 60 ∷ (d ++ 62 ∷ [])))) ++ more
-      join a b c d more = simp append_assoc
-
-      close : (a b c d : Text) → a ++ 60 ∷ (b ++ 62 ∷ (c ++ 60 ∷ (d ++ 62 ∷ []))) ≡ (a ++ 60 ∷ (b ++ 62 ∷ (c ++ 60 ∷ d))) ++ 62 ∷ []
-      close a b c d = simp append_assoc
-
-  by_contacts : strict_line_reading n (trim line) ≡ Ok e → ReadsWithoutIgnored n line e
-  by_contacts is =
-      elim (kind (trim line)) [
-        | absent_kind h first ↦ absurd (says_fault no_email n (trim line) e (sym (first_said n (trim line) Absent first) ∙ is))
-        | unclosed_kind h first ↦ absurd (says_fault missing_closing_bracket n (trim line) e (sym (first_said n (trim line) Unclosed first) ∙ is))
-        | closed_kind a b rest is_cut first ↦ elim (kind rest) [
-          | absent_kind g second ↦ one a b rest is_cut first second is
-          | unclosed_kind g second ↦ absurd (not_open n (trim line) (trim a) (trim b) rest e second (sym (closed_said n (trim line) a b rest first) ∙ is))
-          | closed_kind c d more is_second second ↦ two a b rest c d more is_cut first is_second second is
-        ]
-      ]
-
-unblank : (says : ℕ → Text → Reading) (n : ℕ) (t : Text) (e : Mapping) → unless_blank says n t ≡ Some (Ok e) → says n t ≡ Ok e
-unblank says n [] e is = absurd (no_entry None e refl is)
-unblank says n (b ∷ t) e is = cc
+  -- a line with two contacts
+  two : {old_name old_email more : Text} → IsContact rest old_name old_email more → ◌≡◌ {A = Reading} (Ok e) (Ok (by_both name email old_name old_email)) → ReadsWithoutIgnored n line e
+  unfolding followed
+  two {old_name = old_name} {old_email = old_email} {more = more} d is =
+      let tail : Text = d.before ++ 60 ∷ (d.between ++ 62 ∷ []) in
+      let cut_tail = contact_cut (followed d []) in
+      let closed : IsUnclosed tail → ⊥ = λ u. let wrong : Closed d.before d.between [] ≡ Unclosed = sym cut_tail ∙ cut-unclosed tail u in cc in
+      made tail (c.before ++ 60 ∷ (c.between ++ 62 ∷ (d.before ++ 60 ∷ d.between))) more (d.is_cut.whole ∙ simp append_assoc) (simp append_assoc)
+      (as_lenient closed (second old_name old_email [] (followed d []) is)) (ap (after_second rest) (contact_cut d)) (ap (after_second tail) cut_tail)
 
 pub reads_without : (n : ℕ) (line : Text) (e : Mapping) → strict_reading n line ≡ Some (Ok e) → ReadsWithoutIgnored n line e
-reads_without n line e =
-    elim (is_comment line) as (λ b. is_comment line ≡ b → cond b None (unless_blank strict_line_reading n (trim line)) ≡ Some (Ok e) → ReadsWithoutIgnored n line e) [
-      | true ↦ λ _ is. absurd (no_entry None e refl is)
-      | false ↦ λ no_comment is. by_contacts n line e no_comment (unblank strict_line_reading n (trim line) e is)
-    ] refl
+reads_without n line e is = elim (strict_reading-made n line (Some (Ok e)) is) [
+  | comment begins none ↦ absurd (cc)
+  | blank plain trimmed none ↦ absurd (cc)
+  | non_blank t r plain trimmed some reads same ↦
+      let read : r ≡ Ok e = cc in
+      elim reads [
+        | no_bracket h fault ↦ absurd (cc)
+        | open_first h fault ↦ absurd (cc)
+        | blank_email name rest c fault ↦ absurd (cc)
+        | first name email rest c some s ↦ elim s [
+          | open_second h fault ↦ absurd (cc)
+          | as_lenient closed s ↦ elim s [
+            | second old_name old_email more d says ↦ two n line e plain t trimmed c some d (sym read ∙ says)
+            | name_alone none named says ↦ one n line e plain t trimmed c some none named (sym read ∙ says)
+            | neither none empty fault ↦ absurd (cc)
+          ]
+        ]
+      ]
+]

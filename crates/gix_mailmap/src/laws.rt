@@ -1,8 +1,10 @@
 //! Laws about the definitions. These functions do nothing: each states its law in its contract.
+ghost use Rattle.std.specs.Prelude.{◌≡◌, ℕ, Ok, Some};
+ghost use Rattle.mailmap_entries.specs.Entries.{Mapping};
+ghost use Rattle.mailmap_entries.specs.Folding.{Text};
+ghost use Rattle.mailmap_grammar.specs.Lines.{strict_reading};
+ghost use Rattle.gix_mailmap.specs.IgnoredText.{ReadsWithoutIgnored};
 
-mod ignored;
-
-pub use ignored::law_ignored;
 pub use mailmap_entries::laws::{law_entries, law_order, law_order_without_case};
 pub use mailmap_entries::semantics::{
     law_answers, law_condense, law_equal, law_exists, law_headline, law_neighbours, law_of_email,
@@ -21,13 +23,18 @@ pub use mailmap_redundancy::laws::{
     law_each_key_stays, law_equal_positions, law_needed, law_none_can_go, law_origins, law_passes,
     law_same_listing, law_some_stay, law_stable,
 };
-pub use mailmap_signatures::laws::{
-    law_equal_commit_signatures, law_equal_signatures, law_equal_times, law_time,
-};
 pub use mailmap_snapshot::laws::{
-    law_equal_write_errors, law_lines, law_parts, law_stream, law_strict, law_text,
+    law_equal_commit_signatures, law_equal_signatures, law_equal_times, law_equal_write_errors,
+    law_lines, law_parts, law_stream, law_strict, law_text, law_time,
 };
 pub use mailmap_suggestions::laws::{
     law_exact, law_linked, law_others_stay, law_read_alike, law_suggested_lines,
     law_suggested_text, law_suggestions,
 };
+
+/// If strict parsing of a line yields an entry, the ignored text is at the end of the line, followed only by white
+/// space. Without it the line gives the same entry, and no text is ignored.
+pub fn law_ignored()
+    ensures { (n : ℕ) (line : Text) (e : Mapping) → strict_reading n line ≡ Some (Ok e)
+        → ReadsWithoutIgnored n line e }
+{}

@@ -26,6 +26,5 @@ pub use mailmap_contacts::{answers, counter, occurrences};
 pub use mailmap_entries::{Entry, fold};
 pub use mailmap_findings::{explain, needs, remarks, verify};
 pub use mailmap_grammar::{lines, parse, parse_ignore_errors, parse_strict};
-pub use mailmap_signatures::{actor, date};
-pub use mailmap_snapshot::{Snapshot, check, snapshot};
+pub use mailmap_snapshot::{Snapshot, actor, check, date, snapshot};
 pub use mailmap_suggestions::{suggestions, text};

@@ -1,11 +1,8 @@
 -- Writing lists into a buffer, one after another.
-use Rattle.std.proofs.Common.{◌≡◌, ℕ, Option, zero, suc, ◌+◌, ◌<◌, ◌≤◌, List, [], ◌∷◌, ◌++◌, length, take, drop, None, refl, sym, ap, subst, ◌∙◌, append_assoc, append-nil, arith, length-append}
-use Rattle.std.specs.List.{slice_get}
+use Rattle.std.proofs.Common.{◌≡◌, ℕ, ◌+◌, ◌<◌, List, [], ◌∷◌, ◌++◌, length, take, drop, refl, sym, ap, subst, ◌∙◌, append_assoc, append-nil, arith, length-append}
 use Rattle.std.proofs.Math.ListN.{set}
 use Rattle.std.proofs.lemmas.List.{take_more_set, drop-set-lt, drop-drop, take-append-drop}
-use Rattle.mailmap_entries.specs.Entries.{Mapping}
-use Rattle.mailmap_entries.specs.Folding.{Text}
-use Rattle.gix_mailmap_c.specs.Listed.{IsAfter, all_listed, entry_texts, text_or_empty}
+use Rattle.gix_mailmap_c.specs.Listed.{IsAfter}
 
 module _ {X : Type 0} where
   -- the part of `all` before `left` is at the front of the buffer, up to `end`; from there on the buffer is unchanged
@@ -16,70 +13,38 @@ module _ {X : Type 0} where
 
   -- a list that is unchanged from one index on is unchanged from any later index on
   later : (n k e : ℕ) (xs ys : List X) → e ≡ n + k → drop n xs ≡ drop n ys → drop e xs ≡ drop e ys
-  later n k e xs ys at same =
-      ap (λ p. drop p xs) at ∙ sym (drop-drop k n xs) ∙ ap (drop k) same ∙ drop-drop k n ys ∙ ap (λ p. drop p ys) (sym at)
+  later n k e xs ys at same = rw at (sym (drop-drop k n xs) ∙ ap (drop k) same ∙ drop-drop k n ys)
 
   pub copied_more : (s left all : List X) (end next : ℕ) (now new old : List X) → Copied (s ++ left) all end now old → IsAfter s end now new next → Copied left all next new old
-  copied_more s left all end next now new old c b =
-      record {
-        until = omega (arith, c.until, b.until, length-append s left);
-        front = ap (λ l. l ++ left) b.front ∙ append_assoc (take end now) s left ∙ c.front;
-        rest = b.rest ∙ later end (length s) next now old b.until c.rest;
-      }
+  copied_more s left all end next now new old c b = record {
+    until = omega (arith, c.until, b.until, length-append s left);
+    front = ap (λ l. l ++ left) b.front ∙ append_assoc (take end now) s left ∙ c.front;
+    rest = b.rest ∙ later end (length s) next now old b.until c.rest;
+  }
 
   pub copied_all : (all : List X) (end : ℕ) (now old : List X) → Copied [] all end now old → now ≡ all ++ drop (length all) old
   copied_all all end now old c =
       let whole : end ≡ length all = omega (arith, c.until) in
-      sym (take-append-drop end now)
-      ∙ ap (λ l. l ++ drop end now) (sym (append-nil (take end now)) ∙ c.front)
+      sym (take-append-drop end now) ∙ ap (λ l. l ++ drop end now) (sym (append-nil (take end now)) ∙ c.front)
       ∙ ap (λ l. all ++ l) (c.rest ∙ ap (λ p. drop p old) whole)
 
   -- two lists, one after the other
-  pub after_both : (s t a m b : List X) (start mid end : ℕ) → IsAfter s start a m mid → IsAfter t mid m b end → IsAfter (s ++ t) start a b end
-  after_both s t a m b start mid end p q =
-      record {
-        until = omega (arith, p.until, q.until, length-append s t);
-        front = q.front ∙ ap (λ l. l ++ t) p.front ∙ append_assoc (take start a) s t;
-        rest = q.rest ∙ later mid (length t) end m a q.until p.rest;
-      }
+  pub after_both : {s t a m b : List X} {start mid end : ℕ} → IsAfter s start a m mid → IsAfter t mid m b end → IsAfter (s ++ t) start a b end
+  after_both {s = s} {t = t} {a = a} {m = m} {start = start} {mid = mid} {end = end} p q = record {
+    until = omega (arith, p.until, q.until, length-append s t);
+    front = q.front ∙ ap (λ l. l ++ t) p.front ∙ append_assoc (take start a) s t;
+    rest = q.rest ∙ later mid (length t) end m a q.until p.rest;
+  }
 
   -- a single element
   pub after_set : (xs : List X) (index : ℕ) (x : X) → index < length xs → IsAfter (x ∷ []) index xs (set xs index x) (index + 1)
-  after_set xs index x lt =
-      record {
-        until = refl;
-        front = take_more_set xs index x lt;
-        rest = drop-set-lt (index + 1) xs index x (omega arith);
-      }
+  after_set xs index x lt = record {
+    until = refl;
+    front = take_more_set xs index x lt;
+    rest = drop-set-lt (index + 1) xs index x (omega arith);
+  }
 
   -- one more element
   pub copied_next : {left rest all : List X} {x : X} {index : ℕ} {now old : List X} → left ≡ x ∷ rest → index < length now → Copied left all index now old → Copied rest all (index + 1) (set now index x) old
   copied_next {rest = rest} {all = all} {x = x} {index = index} {now = now} {old = old} is lt c =
       copied_more (x ∷ []) rest all index (index + 1) now (set now index x) old (subst (λ l. Copied l all index now old) is c) (after_set now index x lt)
-
-  -- past the end, there is no element
-  pub nothing_at : (n k : ℕ) (xs : List X) → drop n xs ≡ [] → n ≤ k → slice_get xs k ≡ None
-  nothing_at n k [] e le = refl
-  nothing_at zero k (x ∷ xs) e le = cc
-  nothing_at (suc n) zero (x ∷ xs) e le = absurd (omega arith)
-  nothing_at (suc n) (suc k) (x ∷ xs) e le = nothing_at n k xs e (omega arith)
-
-pub length-all_listed : (start : ℕ) (ms : List Mapping) → length (all_listed start ms) ≡ length ms
-length-all_listed start [] = refl
-length-all_listed start (m ∷ ms) = ap suc (length-all_listed (start + length (entry_texts m)) ms)
-
--- one more entry fits
-pub listed_room : (start index n : ℕ) (left rest all : List Mapping) (m : Mapping) → left ≡ m ∷ rest → index + length (all_listed start left) ≡ length (all_listed 0 all) → length all ≤ n → index < n
-listed_room start index n left rest all m e until room =
-    omega (arith, length-all_listed start left, length-all_listed 0 all, ap length e, until, room)
-
--- the four texts of an entry
-pub after_entry : (m : Mapping) (name email old : Option Text) (last : Text) → name ≡ m.new_name → email ≡ m.new_email → old ≡ m.old_name → last ≡ m.old_email
-    → (o p q r s : Text) (a b c d e : ℕ) → IsAfter (text_or_empty name) a o p b → IsAfter (text_or_empty email) b p q c → IsAfter (text_or_empty old) c q r d → IsAfter last d r s e
-    → IsAfter (entry_texts m) a o s e
-after_entry m name email old last n k l t o p q r s a b c d e first second third fourth =
-    let P : Text → Type 0 = λ text. IsAfter text a o s e in
-    let two = after_both (text_or_empty name) (text_or_empty email) o p q a b c first second in
-    let three = after_both (text_or_empty name ++ text_or_empty email) (text_or_empty old) o q r a c d two third in
-    let four = after_both (text_or_empty name ++ text_or_empty email ++ text_or_empty old) last o r s a d e three fourth in
-    subst P (λ i. text_or_empty (n i) ++ text_or_empty (k i) ++ text_or_empty (l i) ++ t i) four

@@ -1,31 +1,29 @@
 -- Names for the hand-written proofs about boxes.
-pub use Rattle.std.proofs.Common.{◌≡◌, ℕ, ◌≤◌, List, [], ◌∷◌, refl, sym, ap, ◌∙◌, lit<, nltb→le, w8, MutBor, arith}
-pub use Rattle.std.proofs.raw_atomic.Walks.{proved, proved_at, leaves}
+pub use Rattle.std.proofs.Common.{◌≡◌, ℕ, List, [], ◌∷◌, refl, sym, ap, ◌∙◌, lit<}
+pub use Rattle.std.proofs.raw_atomic.Walks.{proved, proved_at}
 pub use base.Fraction.{full_share}
 pub use base.Logic.{id⊢, SProp, ent, fst∗, never, emp, sep}
-pub use base.Fml.{ftrue, fat, flft, fres, fsep, Fml, Lft, GName, Share}
-pub use mir.Syntax.{ty_int, named, w64}
+pub use base.Fml.{ftrue, flft, fsep, Fml, Lft, GName, Share}
+pub use mir.Syntax.{named, w64}
 pub use mir.Val.{Val, vunit, vint, vbool, vstruct, vcons, vnil, vptr, of_list, has_ty}
 pub use contract.Monad.{fact, Fun}
 pub use contract.Running.{tables}
 unfoldable pub use contract.Running.{tables_of}
-pub use types.Kit.{‵, raw, ◌⊛◌, some, later, prop, at_ret, Sq, ◌$◌, ◌∵◌, !, qed, done, move, keep, drop, use1, use2, use3, split, join, fsplit, fsplit3, fjoin, feq_i, feq_l, pick, await, rewrite, regoal, suffices, frame, group, fpack, Item, by, fpick, split3}
-pub use types.Run.{enter, of_opd, lit, unit_lit, bin, addr, load, look, store, stop, fld, hop, no_more, and_then, assigns, assigns_last, first, blocks, branches, skips, exec, returns, returns_within, well_typed, false_lit, true_lit}
+pub use types.Kit.{‵, raw, ◌⊛◌, some, later, at_ret, ◌$◌, ◌∵◌, !, qed, done, move, keep, drop, use1, split, join, fsplit, fsplit3, fjoin, feq_i, feq_l, pick, await, rewrite, suffices, frame, group, fpack, Item, by, fpick, split3}
+pub use types.Run.{enter, of_opd, lit, unit_lit, addr, load, stop, fld, no_more, and_then, first, blocks, exec, returns, false_lit, true_lit}
 pub use types.ByLocal.{alloc_all, pass_all, free_all, look_at, get, through, sets, lands_as, env, get_in, sets_last}
-pub use denote.Builtin.{u8, bool, unit}
+pub use denote.Builtin.{bool}
 pub use denote.Exit.{yes, no}
 pub use denote.Laws.{shows}
-pub use denote.Plain.{uint_in, uint_out, uint_Makes, uint_vals, uint_Tells, bool_vals, bool_Tells}
-pub use denote.RawPtr.{Ptr, RawPtr, block_ptr, lies_at, in_a_block, rawptr_vals, rawptr_Tells, rawptr_Lawful, null_ptr, ptr_val}
+pub use denote.RawPtr.{Ptr, RawPtr, block_ptr, in_a_block, rawptr_Lawful, null_ptr, ptr_val}
 pub use denote.Ref.{MutRef, mut_vals, mut_Tells}
 pub use denote.Signature.{plain, Slot, type_at, mut_ref_to}
-pub use denote.Steps.{nothing, owned, opens, closes, tied, ties, heard, peeks, only}
+pub use denote.Steps.{nothing, opens, closes, heard, peeks, only}
 pub use denote.Triple.Call.{calls_at}
-pub use denote.Triple.Clauses.{lasts}
 pub use denote.Triple.Entry.{on_entry}
 pub use denote.Triple.Spec.{triple_of}
 pub use denote.Triple.Walked.{Stays, walk_of, says, stay_dropped, Goes-dropped, stay_ref, Goes-ref, ends_at, walk_Meets, walked, Goes-spent_ref}
-pub use denote.Triple.Table.{framed, entered}
+pub use denote.Triple.Table.{entered}
 pub use types.Part.{whole, sub, agg, look_in}
 pub use prog.Wp.{WpFn, Tables, Env}
 pub use denote.RattleType.{Valss}

@@ -1,14 +1,13 @@
--- Borrowing the snapshot of an open handle.
-use Rattle.std.specs.Prelude.{List}
+-- Borrowing the content of an open handle.
 use Rattle.std.specs.Borrow.{Lends, MutBor, Fml}
-use Rattle.mailmap_entries.specs.Entries.{Mapping}
-use Rattle.mailmap_snapshot.specs.contracts.snapshot.Snapshot as Snapshot
-use Rattle.gix_mailmap_c.specs.declared.held.Mailmap.{Mailmap}
-use Rattle.gix_mailmap_c.specs.contracts.held.Mailmap.{the_row}
+use Rattle.gix_mailmap_c.specs.declared.held.Content as declared
+use Rattle.gix_mailmap_c.specs.contracts.held.Content as Content
+use Rattle.gix_mailmap_c.specs.declared.held.Handle.{Handle}
+use Rattle.gix_mailmap_c.specs.contracts.held.Handle.{the_row}
 
-abbrev pub with_entries : Mailmap → List Mapping → Mailmap
-with_entries m entries = record m { entries = entries }
+abbrev pub with_content : Handle → declared.Content → Handle
+with_content h content = record h { content = content }
 
--- when the borrow ends, the handle has the listing that r has then
-abbrev pub LendsSnapshot : MutBor Mailmap → MutBor (List Mapping) → Fml
-LendsSnapshot m r = Lends the_row Snapshot.the_row m r (with_entries m.now)
+-- when the borrow ends, the handle has the content that r has then
+abbrev pub LendsContent : MutBor Handle → MutBor declared.Content → Fml
+LendsContent h r = Lends the_row Content.the_row h r (with_content h.now)

@@ -8,8 +8,7 @@ pub record IsWritten {X : Type 0} (text before after : List X) : Type 0 where
 
 -- status 0: the text is written; 1: the buffer is too short, and unchanged
 abbrev pub IsWrittenOrShort : {X : Type 0} → List X → List X → List X → ℕ → Type 0
-IsWrittenOrShort text before after status =
-    ((status ≡ 0) × IsWritten text before after)
+IsWrittenOrShort text before after status = ((status ≡ 0) × IsWritten text before after)
     ⊎ ((status ≡ 1) × (length before < length text) × (after ≡ before))
 
 -- the text is written if it fits, and `needed` is its length
@@ -25,8 +24,7 @@ pub record IsOutOfMemory {X : Type 0} (before after : List X) (needed status : �
 
 -- a text with the property P is written if it fits; or memory ran out
 abbrev pub IsOutput : {X : Type 0} → (List X → Type 0) → List X → List X → ℕ → ℕ → Type 0
-IsOutput {X} P before after needed status =
-    ((text : List X) × P text × IsPut text before after needed status)
+IsOutput {X} P before after needed status = ((text : List X) × P text × IsPut text before after needed status)
     ⊎ IsOutOfMemory before after needed status
 
 -- status 0: each of two texts is written into its buffer; 1: one of the buffers is too short, and both are unchanged

@@ -4,7 +4,7 @@ use Rattle.mailmap_entries.specs.Folding.{Text}
 use Rattle.mailmap_grammar.specs.Lines.{FaultKind, no_email, missing_closing_bracket, empty_email, nothing_to_map, unclosed_second}
 use Rattle.mailmap_findings.specs.Findings as library
 use Rattle.mailmap_findings.specs.Findings.{AreFindings, FindingKind, fault, ignored_text, git_reads, no_effect, itself_mapped}
-use Rattle.gix_mailmap_c.specs.declared.findings.Finding.{Finding}
+use Rattle.gix_mailmap_c.specs.declared.texts.Finding.{Finding}
 
 abbrev pub fault_number : FaultKind → ℕ
 fault_number no_email = 1
@@ -23,20 +23,16 @@ kind_number (git_reads reading) = 9
 
 -- for a line without effect, the last line with an effect for the same key; 0 for all other kinds
 abbrev pub beside_line : FindingKind → ℕ
-beside_line (fault f) = 0
-beside_line (ignored_text text) = 0
-beside_line (no_effect beside is_same) = beside.line
-beside_line (itself_mapped contact to line second) = 0
-beside_line (git_reads reading) = 0
+beside_line kind = elim kind [
+  | no_effect beside is_same ↦ beside.line
+  | _ ↦ 0
+]
 
 abbrev pub c_finding : library.Finding → Finding
 c_finding f = record { line = f.position.line; kind = kind_number f.kind; beside = beside_line f.kind }
-
-abbrev pub c_findings : List library.Finding → List Finding
-c_findings fs = map c_finding fs
 
 -- the findings of the one mailmap, in their order
 pub record AreFindingsOf (mailmap : Text) (reported : List Finding) : Type 0 where
   pub found : List library.Finding
   pub whole : AreFindings (mailmap ∷ []) found
-  pub each : reported ≡ c_findings found
+  pub each : reported ≡ map c_finding found

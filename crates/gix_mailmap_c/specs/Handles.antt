@@ -1,34 +1,76 @@
 -- The calls on a handle.
-use Rattle.std.specs.Prelude.{◌≡◌, ◌≢◌, ◌⊎◌, ℕ, Bool, true, false, List, [], Option, Some, None}
-use Rattle.mailmap_entries.specs.Entries.{Mapping}
+use Rattle.std.specs.Prelude.{◌≡◌, ◌≢◌, ◌⊎◌, ℕ, Bool, true, false, List, [], ◌∷◌, Option, Some, None}
+use Rattle.std.specs.List.{All}
 use Rattle.mailmap_entries.specs.Building.{IsMerged}
-use Rattle.mailmap_entries.specs.Semantics.{IsNormal, accepted}
-use Rattle.gix_mailmap_c.specs.declared.held.Mailmap.{Mailmap}
+use Rattle.mailmap_entries.specs.Entries.{Mapping, mapping}
+use Rattle.mailmap_entries.specs.Folding.{Text}
+use Rattle.mailmap_entries.specs.Semantics.{accepted}
+use Rattle.mailmap_grammar.specs.CanonicalText.{IsWritable, canonical_text}
+use Rattle.mailmap_grammar.specs.Lines.{non_empty}
+use Rattle.mailmap_snapshot.specs.Writing.{IsFirstUnwritable}
+use Rattle.gix_mailmap_c.specs.Buffers.{IsOutput}
+use Rattle.gix_mailmap_c.specs.declared.held.Content.{Content}
+use Rattle.gix_mailmap_c.specs.declared.held.Content.TheVariants.{Mailmap, Stream}
+use Rattle.gix_mailmap_c.specs.declared.held.Handle.{Handle}
+
+abbrev pub if_open : Bool → Content → Option Content
+if_open true content = Some content
+if_open false content = None
 
 -- the content of an open handle
-abbrev pub if_open : {X : Type 0} → Bool → X → Option X
-if_open true held = Some held
-if_open false held = None
+abbrev pub content_of : Handle → Option Content
+content_of h = if_open h.is_open h.content
+
+abbrev pub listing_in : Option Content → Option (List Mapping)
+listing_in (Some (Mailmap n)) = Some n
+listing_in (Some (Stream p)) = None
+listing_in None = None
 
 -- the listing of the snapshot in an open handle
-abbrev pub handle_listing : Mailmap → Option (List Mapping)
-handle_listing m = if_open m.is_open m.entries
+abbrev pub handle_listing : Handle → Option (List Mapping)
+handle_listing h = listing_in (content_of h)
+
+-- the content is a mailmap or a stream, as the first argument says, with the property P
+abbrev pub Holds : {X : Type 0} → (X → Content) → (X → Type 0) → Option Content → Type 0
+Holds {X} holding P content = (x : X) × (content ≡ Some (holding x)) × P x
 
 -- the call returns this status and leaves the handle unchanged
-abbrev pub LeavesHandle : {X : Type 0} → ℕ → Option X → Option X → ℕ → Type 0
+abbrev pub LeavesHandle : ℕ → Option Content → Option Content → ℕ → Type 0
 LeavesHandle code old new status = (status ≡ code) × (new ≡ old)
 
--- status 0: the closed handle is opened with a text's entries; 2: out of memory; 7: it was open, and is unchanged
-abbrev pub OpensMailmap : List Mapping → Option (List Mapping) → Option (List Mapping) → ℕ → Type 0
-OpensMailmap said (Some n) new status = LeavesHandle 7 (Some n) new status
-OpensMailmap said None new status =
-    ((status ≡ 0) × ((n : List Mapping) × (new ≡ Some n) × IsNormal said n))
-    ⊎ LeavesHandle 2 None new status
+-- status 0: the closed handle is opened with a content that has the property P; 2: out of memory; 7: it was open, and
+-- is unchanged
+abbrev pub Opens : {X : Type 0} → (X → Content) → (X → Type 0) → Option Content → Option Content → ℕ → Type 0
+Opens holding P (Some content) new status = LeavesHandle 7 (Some content) new status
+Opens holding P None new status = ((status ≡ 0) × Holds holding P new) ⊎ LeavesHandle 2 None new status
 
--- status 0: a text's entries are merged after those of the handle; 2: out of memory, and the text has an accepted
--- entry; 6: the handle is closed
-abbrev pub Adds : List Mapping → Option (List Mapping) → Option (List Mapping) → ℕ → Type 0
-Adds said (Some n) new status =
-    ((status ≡ 0) × ((m : List Mapping) × (new ≡ Some m) × IsMerged n said m))
-    ⊎ ((accepted said ≢ []) × LeavesHandle 2 (Some n) new status)
-Adds said None new status = LeavesHandle 6 None new status
+-- status 0: a text's entries are merged after those of the mailmap; 2: out of memory, and the text has an accepted
+-- entry
+abbrev pub Adds : List Mapping → List Mapping → Option Content → ℕ → Type 0
+Adds said n new status = ((status ≡ 0) × Holds Mailmap (IsMerged n said) new)
+    ⊎ ((accepted said ≢ []) × LeavesHandle 2 (Some (Mailmap n)) new status)
+
+-- an entry needs a new name or a new email; with an old name, it needs a new email
+abbrev pub if_entry : Option Text → Option Text → Option Text → Text → Option Mapping
+if_entry None None old_name old_email = None
+if_entry (Some name) None (Some old) old_email = None
+if_entry (Some name) None None old_email = Some (mapping (Some name) None None old_email)
+if_entry new_name (Some email) old_name old_email = Some (mapping new_name (Some email) old_name old_email)
+
+-- the entry of four texts; all but the old email count as missing if they are empty
+abbrev pub entry_given : Text → Text → Text → Text → Option Mapping
+entry_given new_name new_email old_name old_email =
+    if_entry (non_empty new_name) (non_empty new_email) (non_empty old_name) old_email
+
+-- status 0: the entry is merged after those of the mailmap; 2: out of memory; 4: there is no entry
+abbrev pub AddsGiven : Option Mapping → List Mapping → Option Content → ℕ → Type 0
+AddsGiven None n new status = LeavesHandle 4 (Some (Mailmap n)) new status
+AddsGiven (Some e) n new status =
+    ((status ≡ 0) × Holds Mailmap (IsMerged n (e ∷ [])) new) ⊎ LeavesHandle 2 (Some (Mailmap n)) new status
+
+-- each entry fits on a line, and the text is written if it fits into the buffer; status 5: the entry at this index is
+-- the first that no line can hold, and the buffer is unchanged
+abbrev pub Writes : List Mapping → Text → Text → ℕ → ℕ → Type 0
+Writes n before after needed status =
+    (All IsWritable n × IsOutput (λ bytes. bytes ≡ canonical_text n) before after needed status)
+    ⊎ ((status ≡ 5) × IsFirstUnwritable n needed × (after ≡ before))

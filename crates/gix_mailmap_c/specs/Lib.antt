@@ -2,15 +2,8 @@ pub mod Buffers
 pub mod Ownership
 pub mod Borrowing
 pub mod Handles
-pub mod Fields
 pub mod Listed
 pub mod Findings
-pub mod Adding
-pub mod Written
 pub mod Streamed
-pub mod StreamOwnership
-pub mod StreamBorrowing
 pub mod StreamCalls
-pub mod Report
-pub mod Unneeded
-pub mod Suggested
+pub mod Several

@@ -1,11 +1,23 @@
--- Listing entries, and copying their texts.
+-- Looking up and listing entries, and copying their texts.
 use Rattle.std.specs.Prelude.{◌≡◌, ◌+◌, ◌<◌, ◌⊎◌, ◌++◌, ℕ, Option, Some, None, List, [], ◌∷◌, length, take, drop, is_some, unwrap_or}
 use Rattle.std.specs.List.{flat_map}
 use Rattle.mailmap_entries.specs.Entries.{Mapping}
 use Rattle.mailmap_entries.specs.Folding.{Text}
-use Rattle.gix_mailmap_c.specs.Buffers.{IsWrittenOrShort}
-use Rattle.gix_mailmap_c.specs.declared.field.Field.{Field}
+use Rattle.mailmap_entries.specs.Semantics.{Fields}
+use Rattle.gix_mailmap_c.specs.Buffers.{ArePut, IsWrittenOrShort}
 use Rattle.gix_mailmap_c.specs.declared.listing.Listed.{Listed}
+use Rattle.gix_mailmap_c.specs.declared.lookup.Field.{Field}
+
+-- the length of a text, or of the other one that is used if it is missing, and whether it is there
+pub record IsDescribed (given : Option Text) (other : Text) (described : Field) : Type 0 where
+  pub len : described.len ≡ length (unwrap_or given other)
+  pub is_given : described.is_given ≡ is_some given
+
+-- the mailmap's fields, or the caller's where it sets none, are copied into two buffers
+pub record IsAnswered (f : Fields) (name email name_before name_after email_before email_after : Text) (status : ℕ)
+    : Type 0 where
+  pub put :
+      ArePut (unwrap_or f.name name) name_before name_after (unwrap_or f.email email) email_before email_after status
 
 -- a missing text is empty
 abbrev pub text_or_empty : Option Text → Text
@@ -43,23 +55,19 @@ pub record IsAfter {X : Type 0} (s : List X) (start : ℕ) (before after : List 
   pub front : take end after ≡ take start before ++ s
   pub rest : drop end after ≡ drop end before
 
--- each entry is listed at its index, and the rest is unchanged
-pub record AreListed (ms : List Mapping) (before after : List Listed) : Type 0 where
-  pub listed : after ≡ all_listed 0 ms ++ drop (length ms) before
-
-pub record IsAllWritten (ms : List Mapping) (before after : Text) : Type 0 where
-  pub written : after ≡ all_texts ms ++ drop (length (all_texts ms)) before
+-- a list is at the front, and the rest is unchanged
+abbrev pub over : {X : Type 0} → List X → List X → List X
+over s before = s ++ drop (length s) before
 
 -- status 0: all entries are listed, and their texts copied; 1: one of the buffers is too short, and both are unchanged
 abbrev pub Lists : List Mapping → List Listed → List Listed → Text → Text → ℕ → Type 0
 Lists ms e_before e_after t_before t_after status =
-    ((status ≡ 0) × AreListed ms e_before e_after × IsAllWritten ms t_before t_after)
+    ((status ≡ 0) × (e_after ≡ over (all_listed 0 ms) e_before) × (t_after ≡ over (all_texts ms) t_before))
     ⊎ ((status ≡ 1) × ((length e_before < length ms) ⊎ (length t_before < length (all_texts ms)))
     × (e_after ≡ e_before) × (t_after ≡ t_before))
 
 -- the entry is listed, and its texts are copied if they fit; status 3: there is no such entry, and both are unchanged
 abbrev pub ListsOne : Option Mapping → Listed → Listed → Text → Text → ℕ → Type 0
-ListsOne None e_before e_after t_before t_after status =
-    (status ≡ 3) × (e_after ≡ e_before) × (t_after ≡ t_before)
+ListsOne None e_before e_after t_before t_after status = (status ≡ 3) × (e_after ≡ e_before) × (t_after ≡ t_before)
 ListsOne (Some m) e_before e_after t_before t_after status =
     (e_after ≡ listed_at 0 m) × IsWrittenOrShort (entry_texts m) t_before t_after status

@@ -12,28 +12,22 @@ pub record Pending : Type 0 where
   pub kept : Text
   pub unread : Text
 
-abbrev pub nothing_pending : Pending
-nothing_pending = record { mappings = []; kept = []; unread = [] }
-
 -- a stream without contacts yet, which answers as the mailmap does
 pub record IsNew (mailmap : Text) (new : Pending) : Type 0 where
   pub kept : new.kept ≡ []
   pub unread : new.unread ≡ []
   pub same : (contacts : Text) → answers new.mappings contacts ≡ answers_by (mailmap ∷ []) contacts
 
--- the stream has read these bytes: the lines that ended are answered, and the rest is kept
-pub record HasTaken (bytes : Text) (old new : Pending) : Type 0 where
-  pub made : Text
-  pub mappings : new.mappings ≡ old.mappings
-  pub unread : new.unread ≡ old.unread ++ made
-  pub front : AnswersFront old.mappings (old.kept ++ bytes) made new.kept
-  pub kept : HoldsNo 10 old.kept → HoldsNo 10 new.kept
-
--- bytes are read from the front of the part, at least one if there is one
+-- bytes are read from the front of the part, at least one if there is one: the lines that ended are answered, and the
+-- rest is kept
 pub record HasTakenOf (part : Text) (taken : ℕ) (old new : Pending) : Type 0 where
   pub within : taken ≤ length part
   pub some : 0 < length part → 0 < taken
-  pub has : HasTaken (take taken part) old new
+  pub made : Text
+  pub mappings : new.mappings ≡ old.mappings
+  pub unread : new.unread ≡ old.unread ++ made
+  pub front : AnswersFront old.mappings (old.kept ++ take taken part) made new.kept
+  pub kept : HoldsNo 10 old.kept → HoldsNo 10 new.kept
 
 -- the kept bytes are answered as a line
 abbrev pub ended : Pending → Pending

@@ -6,8 +6,8 @@ use crate::copies::copy;
 use crate::status::{OK, OUT_OF_MEMORY, TOO_SHORT};
 use std::alloc::AllocError;
 
-/// Copies a text to the front of `out`, if it fits, and sets `needed` to its length.
-pub(crate) fn put(text: &[u8], out: &mut [u8], needed: &mut usize) -> u32
+/// Copies a text or a list to the front of `out`, if it fits, and sets `needed` to its length.
+pub(crate) fn put<T: Copy>(text: &[T], out: &mut [T], needed: &mut usize) -> u32
     ensures { IsPut text.now out.old out.new needed.new result }
 {
     let n = text.len();
@@ -15,12 +15,16 @@ pub(crate) fn put(text: &[u8], out: &mut [u8], needed: &mut usize) -> u32
     if n > out.len() {
         return TOO_SHORT;
     }
-    copy(text, out);
+    out[..n].copy_from_slice(text);
     OK
 }
 
-/// Hands the text that a call made to its caller, as [`put`] does.
-pub(crate) fn hand(made: Result<Vec<u8>, AllocError>, out: &mut [u8], needed: &mut usize) -> u32
+/// Hands what a call made to its caller, as [`put`] does.
+pub(crate) fn hand<T: Copy>(
+    made: Result<Vec<T>, AllocError>,
+    out: &mut [T],
+    needed: &mut usize,
+) -> u32
     ensures ok { IfOk made (λ text. IsPut text.items out.old out.new needed.new result) }
     ensures err { OnErr made (IsOutOfMemory out.old out.new needed.new result) }
 {

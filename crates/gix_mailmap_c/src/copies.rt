@@ -12,26 +12,15 @@ pub(crate) fn copy(text: &[u8], out: &mut [u8])
     ensures { IsWritten text.now out.old out.new }
 {
     let len = text.len();
-    if len >= 16 && len <= 64 {
-        copy_by_16(text, out);
+    if len >= 16 && len <= 32 {
+        copy_ends::<16>(text, out);
     } else if len >= 8 && len < 16 {
         copy_ends::<8>(text, out);
+    } else if len > 32 && len <= 64 {
+        copy_ends::<32>(text, out);
     } else {
         out[..len].copy_from_slice(text);
     }
-}
-
-// Copies both halves by their ends, without branching on the length.
-#[inline(always)]
-fn copy_by_16(text: &[u8], out: &mut [u8])
-    requires fits { length text.now ≤ length out.old }
-    requires covers { (16 ≤ length text.now) × (length text.now ≤ 64) }
-    ensures { IsWritten text.now out.old out.new }
-{
-    let half = text.len().min(32);
-    let rest = text.len() - half;
-    copy_ends::<16>(&text[..half], out);
-    copy_ends::<16>(&text[rest..], &mut out[rest..]);
 }
 
 // Copies the first N bytes and the last N. They overlap or meet.

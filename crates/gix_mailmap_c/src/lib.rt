@@ -4,21 +4,13 @@
 //! the codes in [`status`].
 #![tactic(auto)]
 
-pub mod adding;
 mod buffers;
 mod copies;
-pub mod explain;
-pub mod field;
-pub mod findings;
 pub mod handle;
 mod held;
 pub mod listing;
 pub mod lookup;
-pub mod named;
-pub mod report;
+pub mod several;
 pub mod status;
 pub mod stream;
-pub mod suggest;
 pub mod texts;
-pub mod unneeded;
-pub mod writing;

@@ -1,16 +1,14 @@
 //! Lists the entries of a handle's mailmap.
-ghost use Rattle.std.specs.Prelude.{◌≡◌, ◌≤◌, ◌^◌, length, min, option_map, slice_get, IfSome, IfNone, MatchOption};
+ghost use Rattle.std.specs.Prelude.{◌≡◌, ◌≤◌, ◌+◌, ◌^◌, length, min, option_map, slice_get, IfSome, IfNone, MatchOption};
+ghost use Rattle.std.specs.Option.{option_copied};
 ghost use Rattle.mailmap_entries.specs.Entries.{mapping_of};
-ghost use Rattle.gix_mailmap_c.specs.Handles.{handle_listing};
-ghost use Rattle.gix_mailmap_c.specs.Listed.{all_texts, listed_at, Lists, ListsOne};
+ghost use Rattle.gix_mailmap_c.specs.Handles.{content_of, handle_listing};
+ghost use Rattle.gix_mailmap_c.specs.Listed.{all_listed, all_texts, entry_texts, listed_at, over, text_or_empty};
+ghost use Rattle.gix_mailmap_c.specs.Listed.{IsAfter, Lists, ListsOne};
 
-mod copying;
-
-use crate::field::Field;
-use crate::held::lent::snapshot;
-use crate::held::{Mailmap, is_open};
-use crate::listing::copying::{copy_entry, copy_texts, describe, len_with_texts};
-use crate::status::{CLOSED, NO_ENTRY, OK, TOO_SHORT};
+use crate::held::{Handle, held_in};
+use crate::lookup::Field;
+use crate::status::{NO_ENTRY, OK, TOO_SHORT};
 use mailmap_entries::Entry;
 use mailmap_snapshot::Snapshot;
 
@@ -46,20 +44,17 @@ impl Listed {
 /// Returns `OK`; or `CLOSED`, and sets nothing. Iterates over all entries.
 #[unsafe(no_mangle)]
 pub extern "C" fn gix_mailmap_handle_len(
-    m: &mut Mailmap,
+    m: &mut Handle,
     entries_len: &mut usize,
     texts_len: &mut usize,
 ) -> u32
-    ensures unchanged { handle_listing m.new ≡ handle_listing m.old }
+    ensures unchanged { content_of m.new ≡ content_of m.old }
     ensures listed { IfSome (handle_listing m.old)
         (λ n. (result ≡ 0) × (entries_len.new ≡ length n) × (texts_len.new ≡ min usize.MAX (length (all_texts n)))) }
     ensures closed { IfNone (handle_listing m.old)
         ((result ≡ 6) × (entries_len.new ≡ entries_len.old) × (texts_len.new ≡ texts_len.old)) }
 {
-    if !is_open(m) {
-        return CLOSED;
-    }
-    let snapshot = snapshot(m);
+    held_in!(m, Mailmap(snapshot));
     *entries_len = snapshot.len();
     *texts_len = texts_len_of(snapshot).unwrap_or(usize::MAX);
     OK
@@ -71,18 +66,25 @@ pub extern "C" fn gix_mailmap_handle_len(
 /// written. The rest of each buffer is unchanged.
 #[unsafe(no_mangle)]
 pub extern "C" fn gix_mailmap_handle_list(
-    m: &mut Mailmap,
+    m: &mut Handle,
     entries: &mut [Listed],
     texts: &mut [u8],
 ) -> u32
-    ensures unchanged { handle_listing m.new ≡ handle_listing m.old }
+    ensures unchanged { content_of m.new ≡ content_of m.old }
     ensures listed { IfSome (handle_listing m.old) (λ n. Lists n entries.old entries.new texts.old texts.new result) }
     ensures closed { IfNone (handle_listing m.old) ((result ≡ 6) × (entries.new ≡ entries.old) × (texts.new ≡ texts.old)) }
 {
-    if !is_open(m) {
-        return CLOSED;
+    held_in!(m, Mailmap(snapshot));
+    if snapshot.len() > entries.len() {
+        return TOO_SHORT;
     }
-    list(snapshot(m), entries, texts)
+    match texts_len_of(snapshot) {
+        Some(len) if len <= texts.len() => {
+            copy_entries(snapshot, entries, texts);
+            OK
+        }
+        _ => TOO_SHORT,
+    }
 }
 
 /// Lists the entry at an index, counted from 0, and copies its texts. Iterates over the entries before it.
@@ -91,20 +93,18 @@ pub extern "C" fn gix_mailmap_handle_list(
 /// the mailmap lists no more than `index` entries, and nothing is written; or `CLOSED`, and nothing is written.
 #[unsafe(no_mangle)]
 pub extern "C" fn gix_mailmap_handle_entry(
-    m: &mut Mailmap,
+    m: &mut Handle,
     index: usize,
     entry: &mut Listed,
     texts: &mut [u8],
 ) -> u32
-    ensures unchanged { handle_listing m.new ≡ handle_listing m.old }
+    ensures unchanged { content_of m.new ≡ content_of m.old }
     ensures entry { IfSome (handle_listing m.old)
         (λ n. ListsOne (slice_get n index) entry.old entry.new texts.old texts.new result) }
     ensures closed { IfNone (handle_listing m.old) ((result ≡ 6) × (entry.new ≡ entry.old) × (texts.new ≡ texts.old)) }
 {
-    if !is_open(m) {
-        return CLOSED;
-    }
-    list_one(snapshot(m), index, entry, texts)
+    held_in!(m, Mailmap(snapshot));
+    list_one(snapshot, index, entry, texts)
 }
 
 // The length of the texts of all entries, `None` if it exceeds `usize::MAX`.
@@ -116,22 +116,6 @@ fn texts_len_of(snapshot: &Snapshot) -> Option<usize>
         len = len_with_texts(len, &entry)?;
     }
     Some(len)
-}
-
-fn list(snapshot: &Snapshot, entries: &mut [Listed], texts: &mut [u8]) -> u32
-    ensures { Lists snapshot.now entries.old entries.new texts.old texts.new result }
-{
-    if snapshot.len() > entries.len() {
-        return TOO_SHORT;
-    }
-    match texts_len_of(snapshot) {
-        Some(len) if len <= texts.len() => {
-            describe(snapshot, entries);
-            copy_texts(snapshot, texts);
-            OK
-        }
-        _ => TOO_SHORT,
-    }
 }
 
 fn list_one(snapshot: &Snapshot, index: usize, listed: &mut Listed, texts: &mut [u8]) -> u32
@@ -153,12 +137,55 @@ fn list_one(snapshot: &Snapshot, index: usize, listed: &mut Listed, texts: &mut 
 fn entry_at(snapshot: &Snapshot, index: usize) -> Option<Entry<'_>>
     ensures { option_map mapping_of result ≡ slice_get snapshot.now index }
 {
-    let mut passed = 0;
+    snapshot.iter().nth(index)
+}
+
+// Adds the length of an entry's texts to `len`. `None` if the sum exceeds `usize::MAX`.
+fn len_with_texts(len: usize, entry: &Entry<'_>) -> Option<usize>
+    ensures { let all = len + length (entry_texts (mapping_of entry.now))
+        in MatchOption result (2 ^ 64 ≤ all) (λ n. n ≡ all) }
+{
+    let len = len.checked_add(entry.new_name().unwrap_or(&[]).len())?;
+    let len = len.checked_add(entry.new_email().unwrap_or(&[]).len())?;
+    let len = len.checked_add(entry.old_name().unwrap_or(&[]).len())?;
+    len.checked_add(entry.old_email().len())
+}
+
+// Lists the entries of a snapshot in order, and copies their texts to the front of a buffer.
+fn copy_entries(snapshot: &Snapshot, listed: &mut [Listed], out: &mut [u8])
+    requires room { length snapshot.now ≤ length listed.old }
+    requires text_room { length (all_texts snapshot.now) ≤ length out.old }
+    ensures listed { listed.new ≡ over (all_listed 0 snapshot.now) listed.old }
+    ensures written { out.new ≡ over (all_texts snapshot.now) out.old }
+{
+    let mut index = 0;
+    let mut end = 0;
     for entry in snapshot.iter() {
-        if passed == index {
-            return Some(entry);
-        }
-        passed += 1;
+        let one = Listed::of(end, &entry);
+        listed[index] = one;
+        index += 1;
+        end = copy_entry(&entry, out, end);
     }
-    None
+}
+
+// Copies an entry's texts to an offset in a buffer, and returns the offset after them.
+fn copy_entry(entry: &Entry<'_>, out: &mut [u8], start: usize) -> usize
+    requires { start + length (entry_texts (mapping_of entry.now)) ≤ length out.old }
+    ensures { IsAfter (entry_texts (mapping_of entry.now)) start out.old out.new result }
+{
+    let end = copy_text(entry.new_name(), out, start);
+    let end = copy_text(entry.new_email(), out, end);
+    let end = copy_text(entry.old_name(), out, end);
+    copy_text(Some(entry.old_email()), out, end)
+}
+
+// A missing text copies nothing.
+fn copy_text(text: Option<&[u8]>, out: &mut [u8], start: usize) -> usize
+    requires { start + length (text_or_empty (option_copied text)) ≤ length out.old }
+    ensures { IsAfter (text_or_empty (option_copied text.entry)) start out.old out.new result }
+{
+    let text = text.unwrap_or(&[]);
+    let end = start + text.len();
+    out[start..end].copy_from_slice(text);
+    end
 }

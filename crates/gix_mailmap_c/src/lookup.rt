@@ -1,16 +1,43 @@
 //! Looks up a name and an email in a handle's mailmap.
-ghost use Rattle.std.specs.Prelude.{◌≡◌, IfSome, IfNone};
+ghost use Rattle.std.specs.Prelude.{◌≡◌, IfSome, IfNone, is_some, length, unwrap_or};
 ghost use Rattle.std.specs.Option.{option_copied};
 ghost use Rattle.mailmap_entries.specs.Semantics.{fields_for};
-ghost use Rattle.gix_mailmap_c.specs.Handles.{handle_listing};
-ghost use Rattle.gix_mailmap_c.specs.Fields.{IsAnswered, IsDescribed};
+ghost use Rattle.gix_mailmap_c.specs.Handles.{content_of, handle_listing};
+ghost use Rattle.gix_mailmap_c.specs.Listed.{field_of, IsAnswered, IsDescribed};
 
 use crate::buffers::put_both;
-use crate::field::Field;
-use crate::held::lent::snapshot;
-use crate::held::{Mailmap, is_open};
-use crate::status::CLOSED;
+use crate::held::{Handle, held_in};
 use mailmap_snapshot::Snapshot;
+
+/// The length of a text, and whether the mailmap sets it.
+#[repr(C)]
+#[derive(Clone, Copy)]
+pub struct Field {
+    pub len: usize,
+    pub is_given: bool,
+}
+
+impl Field {
+    /// Describes a text that the mailmap may set, or `other`, which is used if it doesn't. Assigns field by field, so
+    /// that the padding between the fields isn't written.
+    #[inline(always)]
+    pub(crate) fn describe(&mut self, given: Option<&[u8]>, other: &[u8])
+        ensures len { self.new.len ≡ length (unwrap_or (option_copied given.entry) other.now) }
+        ensures is_given { self.new.is_given ≡ is_some (option_copied given.entry) }
+    {
+        self.len = given.unwrap_or(other).len();
+        self.is_given = given.is_some();
+    }
+
+    pub(crate) fn of_optional(text: Option<&[u8]>) -> Field
+        ensures { result ≡ field_of (option_copied text.entry) }
+    {
+        Field {
+            len: text.unwrap_or(&[]).len(),
+            is_given: text.is_some(),
+        }
+    }
+}
 
 /// Looks up a name and an email, and copies what the mailmap maps them to into `name_out` and `email_out`; a field that
 /// it doesn't set is the caller's own. `name_field` and `email_field` tell the length of each, and whether the mailmap
@@ -20,7 +47,7 @@ use mailmap_snapshot::Snapshot;
 /// `CLOSED`, and nothing is written. The rest of each buffer is unchanged.
 #[unsafe(no_mangle)]
 pub extern "C" fn gix_mailmap_handle_lookup(
-    m: &mut Mailmap,
+    m: &mut Handle,
     name: &[u8],
     email: &[u8],
     name_out: &mut [u8],
@@ -28,7 +55,7 @@ pub extern "C" fn gix_mailmap_handle_lookup(
     email_out: &mut [u8],
     email_field: &mut Field,
 ) -> u32
-    ensures unchanged { handle_listing m.new ≡ handle_listing m.old }
+    ensures unchanged { content_of m.new ≡ content_of m.old }
     ensures described { IfSome (handle_listing m.old) (λ n. let f = fields_for n name.now email.now in
         IsDescribed f.name name.now name_field.new × IsDescribed f.email email.now email_field.new) }
     ensures answer { IfSome (handle_listing m.old) (λ n.
@@ -38,11 +65,9 @@ pub extern "C" fn gix_mailmap_handle_lookup(
         ((result ≡ 6) × (name_out.new ≡ name_out.old) × (name_field.new ≡ name_field.old)
         × (email_out.new ≡ email_out.old) × (email_field.new ≡ email_field.old)) }
 {
-    if !is_open(m) {
-        return CLOSED;
-    }
+    held_in!(m, Mailmap(snapshot));
     answer(
-        snapshot(m),
+        snapshot,
         name,
         email,
         name_out,

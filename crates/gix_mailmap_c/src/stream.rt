@@ -1,16 +1,17 @@
 //! A stream of contacts that C opens, feeds with contacts in parts, reads answers from, and closes.
-ghost use Rattle.std.specs.Prelude.{◌≡◌, Some, None, option_map, IfOk};
-ghost use Rattle.gix_mailmap_c.specs.Streamed.{IsNew};
-ghost use Rattle.gix_mailmap_c.specs.StreamCalls.{pending, OpensStream, Pushes, Finishes, ReadsAnswers};
+ghost use Rattle.std.specs.Prelude.{◌≡◌, None, MatchOption};
+ghost use Rattle.gix_mailmap_c.specs.Handles.{content_of, Holds, LeavesHandle, Opens};
+ghost use Rattle.gix_mailmap_c.specs.Streamed.{AreTaken, IsNew};
+ghost use Rattle.gix_mailmap_c.specs.StreamCalls.{pending, Finishes, Pushes};
+ghost use Rattle.gix_mailmap_c.specs.declared.held.Content.TheVariants.{Stream};
 
 pub mod contacts;
-mod held;
 
-use crate::held::Parts;
-use crate::status::{CLOSED, OK, OPEN, OUT_OF_MEMORY};
+use crate::handle::{close, open};
+use crate::held::{Content, Handle, held_in, is_open};
+use crate::status::{OK, OPEN, OUT_OF_MEMORY};
 use contacts::ContactQueue;
-use held::{Stream, closed, discard_closed, into_parts, is_open, lent, opened};
-use std::alloc::{AllocError, Global};
+use std::alloc::Global;
 
 /// Opens a closed handle with a stream whose contacts are answered using `mailmap`.
 ///
@@ -18,19 +19,16 @@ use std::alloc::{AllocError, Global};
 #[unsafe(no_mangle)]
 pub extern "C" fn gix_mailmap_stream_handle_open(
     alloc: Global,
-    s: &mut Stream,
+    s: &mut Handle,
     mailmap: &[u8],
 ) -> u32
-    ensures { OpensStream mailmap.now (pending s.old) (pending s.new) result }
+    ensures { Opens Stream (IsNew mailmap.now) (content_of s.old) (content_of s.new) result }
 {
     if is_open(s) {
         return OPEN;
     }
-    match opened_box(alloc, mailmap) {
-        Ok(contacts) => {
-            put_back(s, contacts);
-            OK
-        }
+    match ContactQueue::new(alloc, mailmap) {
+        Ok(contacts) => open(alloc, s, Content::Stream(contacts)),
         Err(_) => OUT_OF_MEMORY,
     }
 }
@@ -42,16 +40,16 @@ pub extern "C" fn gix_mailmap_stream_handle_open(
 /// `CLOSED`.
 #[unsafe(no_mangle)]
 pub extern "C" fn gix_mailmap_stream_handle_push(
-    s: &mut Stream,
+    s: &mut Handle,
     part: &[u8],
     taken: &mut usize,
 ) -> u32
-    ensures { Pushes part.now (pending s.old) (pending s.new) taken.old taken.new result }
+    ensures { MatchOption (pending s.old)
+        ((taken.new ≡ taken.old) × LeavesHandle 6 (content_of s.old) (content_of s.new) result)
+        (λ p. Pushes part.now p (content_of s.new) taken.new result) }
 {
-    if !is_open(s) {
-        return CLOSED;
-    }
-    match lent::contacts(s).push(part) {
+    held_in!(s, Stream(contacts));
+    match contacts.push(part) {
         Ok(count) => {
             *taken = count;
             OK
@@ -67,13 +65,12 @@ pub extern "C" fn gix_mailmap_stream_handle_push(
 ///
 /// Returns `OK`; `OUT_OF_MEMORY`, and the stream is unchanged; or `CLOSED`.
 #[unsafe(no_mangle)]
-pub extern "C" fn gix_mailmap_stream_handle_finish(s: &mut Stream) -> u32
-    ensures { Finishes (pending s.old) (pending s.new) result }
+pub extern "C" fn gix_mailmap_stream_handle_finish(s: &mut Handle) -> u32
+    ensures { MatchOption (pending s.old) (LeavesHandle 6 (content_of s.old) (content_of s.new) result)
+        (λ p. Finishes p (content_of s.new) result) }
 {
-    if !is_open(s) {
-        return CLOSED;
-    }
-    match lent::contacts(s).finish() {
+    held_in!(s, Stream(contacts));
+    match contacts.finish() {
         Ok(()) => OK,
         Err(_) => OUT_OF_MEMORY,
     }
@@ -84,51 +81,23 @@ pub extern "C" fn gix_mailmap_stream_handle_finish(s: &mut Stream) -> u32
 /// Returns `OK` or `CLOSED`. The rest of `out` is unchanged.
 #[unsafe(no_mangle)]
 pub extern "C" fn gix_mailmap_stream_handle_read(
-    s: &mut Stream,
+    s: &mut Handle,
     out: &mut [u8],
     count: &mut usize,
 ) -> u32
-    ensures { ReadsAnswers (pending s.old) (pending s.new) out.old out.new count.old count.new result }
+    ensures { MatchOption (pending s.old)
+        ((out.new ≡ out.old) × (count.new ≡ count.old) × LeavesHandle 6 (content_of s.old) (content_of s.new) result)
+        (λ p. (result ≡ 0) × Holds Stream (λ q. AreTaken p q out.old out.new count.new) (content_of s.new)) }
 {
-    if !is_open(s) {
-        return CLOSED;
-    }
-    *count = lent::contacts(s).read(out);
+    held_in!(s, Stream(contacts));
+    *count = contacts.read(out);
     OK
 }
 
 /// Closes a handle and frees its memory. A closed handle stays closed.
 #[unsafe(no_mangle)]
-pub extern "C" fn gix_mailmap_stream_handle_close(alloc: Global, s: &mut Stream)
-    ensures { pending s.new ≡ None }
+pub extern "C" fn gix_mailmap_stream_handle_close(alloc: Global, s: &mut Handle)
+    ensures { content_of s.new ≡ None }
 {
-    drop(take(alloc, s));
-}
-
-fn opened_box(alloc: Global, mailmap: &[u8]) -> Result<Box<ContactQueue>, AllocError>
-    ensures { IfOk result (λ b. IsNew mailmap.now b.value) }
-{
-    let contacts = ContactQueue::new(alloc, mailmap)?;
-    Ok(Box::new(alloc, contacts)?)
-}
-
-// Takes the contacts out of an open handle. The handle is closed afterwards.
-fn take(alloc: Global, s: &mut Stream) -> Option<Box<ContactQueue>>
-    ensures taken { option_map (λ b. b.value) result ≡ pending s.old }
-    ensures closed { pending s.new ≡ None }
-{
-    let mut taken = std::mem::replace(s, closed(alloc));
-    if is_open(&mut taken) {
-        Some(into_parts(taken).into_box())
-    } else {
-        discard_closed(taken);
-        None
-    }
-}
-
-fn put_back(s: &mut Stream, contacts: Box<ContactQueue>)
-    requires { pending s.old ≡ None }
-    ensures { pending s.new ≡ Some contacts.value }
-{
-    discard_closed(std::mem::replace(s, opened(Parts::of(contacts))));
+    close(alloc, s);
 }

@@ -1,14 +1,30 @@
 //! Calls that take a mailmap as text and keep nothing.
-ghost use Rattle.std.specs.Prelude.{◌≡◌, ◌∷◌, []};
+ghost use Rattle.std.specs.Prelude.{◌≡◌, ◌∷◌, [], IfOk};
+ghost use Rattle.mailmap_grammar.specs.Lines.{fault_of};
+ghost use Rattle.mailmap_findings.specs.Findings.{IsPruned, finding_of, kind_of};
 ghost use Rattle.mailmap_snapshot.specs.Contacts.{answers_by};
-ghost use Rattle.mailmap_findings.specs.Findings.{IsPruned};
 ghost use Rattle.mailmap_snapshot.specs.Writing.{IsCompacted};
 ghost use Rattle.gix_mailmap_c.specs.Buffers.{IsOutput};
+ghost use Rattle.gix_mailmap_c.specs.Findings.{beside_line, fault_number, kind_number, c_finding, AreFindingsOf};
 
 use crate::buffers::hand;
-use mailmap_findings::verify;
+use mailmap_findings::verify::{self, FindingKind};
+use mailmap_grammar::lines::Error;
 use mailmap_snapshot::check;
-use std::alloc::Global;
+use std::alloc::{AllocError, Global};
+
+/// A finding. `line` counts from 1. If the line has no effect, `beside` is the last line with an effect for the same old
+/// name and old email; otherwise it is 0.
+///
+/// `kind` is 1 to 5 for the faults, in the order of [`Error`], 6 for ignored text, 7 for no effect, 8 for a contact
+/// that is itself mapped, and 9 for a line that git reads in another way.
+#[repr(C)]
+#[derive(Clone, Copy)]
+pub struct Finding {
+    pub line: usize,
+    pub kind: u32,
+    pub beside: usize,
+}
 
 /// Answers each line of `contacts` using `mailmap`, as [`check`](mailmap_snapshot::check::check()) does.
 ///
@@ -53,4 +69,66 @@ pub extern "C" fn gix_mailmap_text_prune(
     ensures { IsOutput (IsPruned mailmap.now) out.old out.new needed.new result }
 {
     hand(verify::prune(alloc, mailmap), out, needed)
+}
+
+/// Reports what is wrong with the lines of a mailmap, in their order, as [`verify`](mailmap_findings::verify::verify())
+/// does. Returns what [`gix_mailmap_text_check`] does, with the number of findings in place of a length.
+#[unsafe(no_mangle)]
+pub extern "C" fn gix_mailmap_text_verify(
+    alloc: Global,
+    mailmap: &[u8],
+    out: &mut [Finding],
+    needed: &mut usize,
+) -> u32
+    ensures { IsOutput (AreFindingsOf mailmap.now) out.old out.new needed.new result }
+{
+    hand(findings_of(alloc, mailmap), out, needed)
+}
+
+fn findings_of(alloc: Global, mailmap: &[u8]) -> Result<Vec<Finding>, AllocError>
+    ensures { IfOk result (λ found. AreFindingsOf mailmap.now found.items) }
+{
+    let found = verify::verify(alloc, &[mailmap])?;
+    let mut each = Vec::new(alloc);
+    for finding in &found {
+        each.push(Finding {
+            line: finding.position.line,
+            kind: number_of(&finding.kind),
+            beside: beside_of(&finding.kind),
+        })?;
+    }
+    Ok(each)
+}
+
+fn number_of(kind: &FindingKind<'_>) -> u32
+    ensures { result ≡ kind_number (kind_of kind.now) }
+{
+    match kind {
+        FindingKind::Fault(fault) => number_of_fault(fault),
+        FindingKind::IgnoredText(_) => 6,
+        FindingKind::NoEffect { .. } => 7,
+        FindingKind::ItselfMapped { .. } => 8,
+        FindingKind::GitReads(_) => 9,
+    }
+}
+
+fn number_of_fault(fault: &Error<'_>) -> u32
+    ensures { result ≡ fault_number (fault_of fault.now).kind }
+{
+    match fault {
+        Error::NoEmail { .. } => 1,
+        Error::MissingClosingBracket { .. } => 2,
+        Error::EmptyEmail { .. } => 3,
+        Error::NothingToMap { .. } => 4,
+        Error::UnclosedSecond { .. } => 5,
+    }
+}
+
+fn beside_of(kind: &FindingKind<'_>) -> usize
+    ensures { result ≡ beside_line (kind_of kind.now) }
+{
+    match kind {
+        FindingKind::NoEffect { beside, .. } => beside.line,
+        _ => 0,
+    }
 }

@@ -1,7 +1,5 @@
-//! A merge that leaves half of the text pool unused rebuilds it, so that overriding merges don't grow it without bound.
-//! The pool's length isn't public, but sixty copies show it: they take at most twice the memory of their texts.
-use crate::entries::snapshot_of;
-use crate::listings::assert_lists;
+//! The text pool is rebuilt once it has become twice as long, so that merges that replace texts don't grow it without
+//! bound. The pool's length isn't public, but sixty copies show it: they take at most twice the memory of their texts.
 use gix_mailmap::{Entry, Snapshot};
 use std::fs;
 use std::process::Abort;
@@ -15,120 +13,67 @@ fn resident<R: Files + AllocGlobal>(rt: &R) -> Result<usize, Fail> {
     Ok(pages.ok_or("a count of pages")?.saturating_mul(4096))
 }
 
-/// How much resident memory sixty copies of a snapshot take, which are appended to the earlier ones.
-fn taken_by_copies<R: Files + AllocGlobal>(
-    rt: &R,
-    snapshot: &Snapshot,
-    copies: &mut Vec<Snapshot>,
-) -> Result<usize, Fail> {
-    let before = resident(rt)?;
-    for _ in 0..60 {
-        copies.push(snapshot.try_clone(rt.alloc())?)?;
-    }
-    Ok(resident(rt)?.saturating_sub(before))
-}
-
-/// How snapshots are made and measured.
-#[derive(Clone, Copy)]
-struct Way {
-    /// Whether a copy replaces the snapshot before each merge.
-    copied: bool,
-    /// How many merges come before each measurement.
-    merges: usize,
-    measurements: usize,
-    /// The least and the most memory that sixty copies may take: between one and two times their texts. The system's
-    /// count can be off by 1.5 MB, because the copies first reuse memory that was freed before.
-    taken: [usize; 2],
-}
-
-/// Asserts how much memory copies of a snapshot take after merges of entries that it has already.
+/// Asserts how much memory sixty copies of a snapshot take, after merges of entries that it has already. If `replaced`,
+/// a copy replaces the snapshot before each merge: it knows how long its pool was when it was built.
+///
+/// The texts of `entries` take 260 KB, so those of the copies take 15.6 MB, and twice that at most. The system's count
+/// can be off by 1.5 MB, because the copies first reuse memory that was freed before.
 fn assert_given_up<R: Files + AllocGlobal + Abort>(
     rt: &R,
     entries: &[Entry<'_>],
     again: &[Entry<'_>],
-    way: &Way,
+    replaced: bool,
+    copies: &mut Vec<Snapshot>,
 ) -> Result<(), Fail> {
-    let mut snapshot = snapshot_of(rt.alloc(), entries)?;
-    let mut copies = Vec::new(rt.alloc());
-    for _ in 0..way.measurements {
-        for _ in 0..way.merges {
-            if way.copied {
-                snapshot = snapshot.try_clone(rt.alloc())?;
-            }
-            snapshot.merge(again.iter().copied())?;
+    let mut snapshot = Snapshot::new(rt.alloc(), entries.iter().copied())?;
+    for _ in 0..20 {
+        if replaced {
+            snapshot = snapshot.try_clone(rt.alloc())?;
         }
-        let taken = taken_by_copies(rt, &snapshot, &mut copies)?;
-        assert!(rt; way.taken[0] < taken && taken < way.taken[1], "{taken}");
+        snapshot.merge(again.iter().copied())?;
     }
-    assert_lists(rt, rt.alloc(), &snapshot, entries)?;
+    let before = resident(rt)?;
+    for _ in 0..60 {
+        copies.push(snapshot.try_clone(rt.alloc())?)?;
+    }
+    let taken = resident(rt)?.saturating_sub(before);
+    assert!(rt; 14_100_000 < taken && taken < 32_700_000, "{taken}");
     Ok(())
 }
 
-/// Measurements after each of twelve merges. The copies have 6 MB of texts.
-const EACH: Way = Way {
-    copied: false,
-    merges: 1,
-    measurements: 12,
-    taken: [4_500_000, 16_500_000],
-};
-
-#[test]
-fn replaced_texts_are_given_up(rt: HostRuntime) -> Result<(), Fail> {
-    let name = [b'N'; 100_000];
-    let entry = [Entry::change_name_and_email_by_email(&name, b"new@x", b"a@x")];
-    assert_given_up(&rt, &entry, &entry, &EACH)
-}
-
-/// Entries that give each of four emails this new name.
-fn four(name: &[u8]) -> [Entry<'_>; 4] {
+fn four_emails(name: &[u8]) -> [Entry<'_>; 4] {
     [
-        Entry::change_name_and_email_by_email(name, b"new@x", b"a@x"),
-        Entry::change_name_and_email_by_email(name, b"new@x", b"b@x"),
-        Entry::change_name_and_email_by_email(name, b"new@x", b"c@x"),
-        Entry::change_name_and_email_by_email(name, b"new@x", b"d@x"),
+        Entry::change_name_by_email(name, b"a@x"),
+        Entry::change_name_by_email(name, b"b@x"),
+        Entry::change_name_by_email(name, b"c@x"),
+        Entry::change_name_by_email(name, b"d@x"),
     ]
 }
 
-/// The same holds for small merges, which are made in place.
-#[test]
-fn texts_that_small_merges_replace_are_given_up(rt: HostRuntime) -> Result<(), Fail> {
-    let name = [b'N'; 25_000];
-    let entries = four(&name);
-    assert_given_up(&rt, &entries, &entries[1..2], &EACH)
+fn four_names(email: &[u8]) -> [Entry<'_>; 4] {
+    [
+        Entry::change_email_by_name_and_email(email, b"A", b"a@x"),
+        Entry::change_email_by_name_and_email(email, b"B", b"a@x"),
+        Entry::change_email_by_name_and_email(email, b"C", b"a@x"),
+        Entry::change_email_by_name_and_email(email, b"D", b"a@x"),
+    ]
 }
 
-/// The same holds if a copy replaces the snapshot before each merge: it knows which of its texts are unused.
-#[test]
-fn texts_that_a_copy_replaces_are_given_up(rt: HostRuntime) -> Result<(), Fail> {
-    let name = [b'N'; 25_000];
-    let entries = four(&name);
-    let way = Way {
-        copied: true,
-        ..EACH
-    };
-    assert_given_up(&rt, &entries, &entries[1..2], &way)
-}
+static NAME: [u8; 260_000] = [b'N'; 260_000];
 
-/// The same holds for the texts of names: in merges of one entry, which are made in place, and in merges of seventeen,
-/// which aren't. The copies have 15.6 MB of texts.
+/// Merges of one entry, which is put in place, of a few entries, and of many, of which new tables are built.
 #[test]
-fn texts_that_names_replace_are_given_up(rt: HostRuntime) -> Result<(), Fail> {
-    static LETTERS: [u8; 26] = *b"ABCDEFGHIJKLMNOPQRSTUVWXYZ";
-    let name = [b'N'; 10_000];
-    let way = Way {
-        copied: false,
-        merges: 150,
-        measurements: 1,
-        taken: [14_100_000, 32_700_000],
-    };
-    let mut entries = Vec::new(rt.alloc());
-    for letter in LETTERS.chunks(1) {
-        entries.push(Entry::change_name_and_email_by_name_and_email(
-            &name, b"new@x", letter, b"a@x",
-        ))?;
-    }
-    let first = entries.first().ok_or("the first of 26 entries")?;
-    let again = [*first; 17];
-    assert_given_up(&rt, &entries, &again[..1], &way)?;
-    assert_given_up(&rt, &entries, &again, &way)
+fn replaced_texts_are_given_up(rt: HostRuntime) -> Result<(), Fail> {
+    let one = [Entry::change_name_by_email(&NAME, b"a@x")];
+    let emails = four_emails(&NAME[..65_000]);
+    let names = four_names(&NAME[..65_000]);
+    let mut copies = Vec::new(rt.alloc());
+    assert_given_up(&rt, &one, &one, false, &mut copies)?;
+    assert_given_up(&rt, &emails, &emails[1..2], false, &mut copies)?;
+    assert_given_up(&rt, &emails, &emails[1..2], true, &mut copies)?;
+    assert_given_up(&rt, &names, &names[..1], false, &mut copies)?;
+    assert_given_up(&rt, &names, &names[..3], false, &mut copies)?;
+    let mut many = [Entry::change_name_by_email(b"N", b"b@x"); 17];
+    many[0] = names[0];
+    assert_given_up(&rt, &names, &many, false, &mut copies)
 }

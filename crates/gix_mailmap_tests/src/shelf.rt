@@ -1,53 +1,28 @@
-//! Files in memory. Contracts know what is at each path.
-ghost use Rattle.std.specs.Prelude.{◌≡◌};
-ghost use Rattle.gix_mailmap_tests.specs.Shelf.{held_at, held_by};
+//! A file in memory. Contracts know its bytes.
+ghost use Rattle.command_line.specs.Files.{Bytes};
 
 use command_line::files::FileSystem;
 use std::alloc::Global;
 use std::io;
-use std::io::{Error, ErrorKind};
+use std::io::ErrorKind;
 
-/// A file's path, and its bytes or why it can't be opened.
+/// Has the same file at each path.
 #[derive(Clone, Copy)]
-pub struct ShelfFile<'a> {
-    pub path: &'a str,
-    pub held: Result<&'a [u8], ErrorKind>,
+pub struct Shelf {
+    pub bytes: &'static [u8],
 }
 
-/// Files in memory. If several have the same path, the first one counts. There is nothing at any other path.
-#[derive(Drop)]
-pub struct Shelf<'a> {
-    pub files: &'a [ShelfFile<'a>],
-}
+impl FileSystem for Shelf {
+    type Reader = &'static [u8];
 
-impl<'a> Shelf<'a> {
-    fn find(&self, path: &[u8]) -> Result<&'a [u8], ErrorKind>
-        ensures { held_by result ≡ held_at self.now.files.now path.now }
-    {
-        for file in self.files {
-            if file.path.as_bytes() == path {
-                return file.held;
-            }
-        }
-        Err(ErrorKind::NotFound)
-    }
-}
+    ghost at = { λ shelf _. Bytes shelf.bytes.now };
 
-impl<'a> FileSystem for Shelf<'a> {
-    type Reader = &'a [u8];
-
-    ghost at = { λ shelf. held_at shelf.files.now };
-
-    fn open(&self, path: &[u8]) -> io::Result<&'a [u8]> {
-        match self.find(path) {
-            Ok(bytes) => Ok(bytes),
-            Err(cause) => Err(Error::from(cause)),
-        }
+    fn open(&self, _path: &[u8]) -> io::Result<&'static [u8]> {
+        Ok(self.bytes)
     }
 
-    fn read(&self, alloc: Global, path: &[u8]) -> Result<Vec<u8>, ErrorKind> {
-        let bytes = self.find(path)?;
-        match Vec::from_slice(alloc, bytes) {
+    fn read(&self, alloc: Global, _path: &[u8]) -> Result<Vec<u8>, ErrorKind> {
+        match Vec::from_slice(alloc, self.bytes) {
             Ok(contents) => Ok(contents),
             Err(_) => Err(ErrorKind::OutOfMemory),
         }

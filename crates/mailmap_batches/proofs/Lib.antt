@@ -1,5 +1,4 @@
 pub mod Numbered
 pub mod Stable
-pub mod Inserted
-pub mod LeadingNames
+pub mod Respelled
 pub mod SortedGroups

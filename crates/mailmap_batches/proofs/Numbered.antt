@@ -7,11 +7,8 @@ use Rattle.mailmap_batches.specs.Batches.{IsAscending}
 
 pub enumerate_from-push : {X : Type 0} (n k : ℕ) (xs : List X) (x : X) → k ≡ n + length xs
     → enumerate_from n (xs ++ x ∷ []) ≡ enumerate_from n xs ++ (k, x) ∷ []
-enumerate_from-push n k [] x e i = (omega-is i, x) ∷ []
-  where
-    omega-is : n ≡ k
-    omega-is = omega (arith, e)
-enumerate_from-push n k (y ∷ xs) x e i = (n, y) ∷ enumerate_from-push (n + 1) k xs x (omega (arith, e)) i
+enumerate_from-push n k [] x e = grind arith
+enumerate_from-push n k (y ∷ xs) x e = grind (arith, enumerate_from-push (n + 1) k xs x (omega (arith, e)))
 
 pub numbered : {X : Type 0} (n : ℕ) (xs : List X) → map (λ p. p.1) (enumerate_from n xs) ≡ xs
 numbered n [] = refl
@@ -33,6 +30,5 @@ module _ {X K : Type 0} (R : K → K → Ordering) (by : X → K) where
   ascending_from [] h = tt
   ascending_from (x ∷ xs) h = (
     all_from x xs (λ k lt. h 0 (suc k) x (omega arith) (omega arith)),
-    ascending_from xs (λ i j d le lt. h (suc i)
-        (suc j) d (omega arith) (omega arith)),
+    ascending_from xs (λ i j d le lt. h (suc i) (suc j) d (omega arith) (omega arith)),
   )

@@ -26,13 +26,14 @@ email_text m = folded m.old_email
 abbrev pub email_prefix : IndexedEntry → ℕ
 email_prefix p = key_prefix 16 (email_text (mapping_at p))
 
+-- the same of the old name, 0 if there is none
+abbrev pub name_prefix : IndexedEntry → ℕ
+name_prefix p = key_prefix 16 (unwrap_or (key_at p).1 [])
+
 -- the folded old email of the first entry
 abbrev pub first_email : List Mapping → Text
 first_email [] = []
 first_email (m ∷ ms) = email_text m
-
-abbrev pub name_text : Mapping → Text
-name_text m = folded (unwrap_or m.old_name [])
 
 -- no key is below one that comes before it
 abbrev pub IsAscending : {K : Type 0} → (K → K → Ordering) → List K → Type 0

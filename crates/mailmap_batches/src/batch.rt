@@ -1,29 +1,27 @@
 //! A stable sort of entries by key.
 //!
-//! First each entry is inserted among the last few, which is all that a batch in nearly ascending order needs. If that
-//! doesn't do, the whole batch is sorted by the prefixes of its emails: the first sixteen bytes as a number, as
-//! `key_prefix` makes it. Emails whose prefixes differ are in their order, so only entries with the same prefix are then
-//! compared by their texts.
-ghost use Rattle.std.specs.Prelude.{◌≡◌, ◌<◌, ◌≤◌, ◌-◌, IfOk, OnOk, drop, false, length, map, slice_index_or};
-ghost use Rattle.std.specs.Option.{ForSome, option_cmp};
-ghost use Rattle.std.specs.List.{All, AllByRecursion, HoldsAt, enumerate_from};
-ghost use Rattle.std.specs.List.Sorted.{IsNonDecreasingBy};
-ghost use Rattle.std.specs.Ordering.{is_lt, nat_cmp};
-ghost use Rattle.mailmap_entries.specs.Folding.{text_cmp};
-ghost use Rattle.mailmap_entries.specs.Prefixes.{AreBytes, IsKeyPrefix};
-ghost use Rattle.mailmap_entries.specs.Semantics.{key, key_cmp};
+//! First the entries are sorted by the prefixes of their emails, unless these ascend already, as in a mailmap that is
+//! sorted by email: the first sixteen bytes as a number, as `key_prefix` makes it. Emails whose prefixes differ are in
+//! their order, so only entries with the same prefix are then compared by their texts.
+ghost use Rattle.std.specs.Prelude.{◌≡◌, ◌<◌, ◌≤◌, ◌-◌, IfOk, OnOk, [], drop, length, map, slice_index_or, take};
+ghost use Rattle.std.specs.Option.{option_cmp};
+ghost use Rattle.std.specs.List.{All, enumerate_from};
+ghost use Rattle.std.specs.List.Sorted.{IsNonDecreasingBy, IsPermutation};
+ghost use Rattle.mailmap_entries.specs.Folding.{folded, text_cmp};
+ghost use Rattle.mailmap_entries.specs.Prefixes.{AreBytes};
+ghost use Rattle.mailmap_entries.specs.Semantics.{Key, key_cmp, of_key};
 ghost use Rattle.mailmap_batches.specs.Batches.{IsSorted, IsSortedFrom, email_prefix, email_text, indexed_mapping, key_at};
-ghost use Rattle.mailmap_batches.specs.Batches.{mapping_at};
+ghost use Rattle.mailmap_batches.specs.Batches.{mapping_at, name_prefix};
+ghost use Rattle.mailmap_batches.specs.InOrder.{in_order};
 ghost use Rattle.mailmap_batches.specs.declared.indexed.IndexedEntry.{IndexedEntry as SpecEntry};
 
 use crate::groups::email_group_len;
 use crate::indexed::{HasEntry, IndexedEntry};
-use mailmap_entries::Entry;
+use crate::prefixed::{PrefixedEntry, indexed_entry, stored_prefix, with_prefix};
 use mailmap_entries::fold::cmp_ignore_ascii_case;
 use mailmap_entries::fold::prefix::key_prefix;
 use std::alloc::{AllocError, Global};
 use std::cmp::Ordering;
-use std::marker::Model;
 
 /// The entries in ascending order of their keys. Entries with equal keys keep their order.
 pub fn sorted<'e, 'a, T: HasEntry<'a>>(
@@ -32,57 +30,22 @@ pub fn sorted<'e, 'a, T: HasEntry<'a>>(
 ) -> Result<Vec<IndexedEntry<'e, 'a>>, AllocError>
     ensures { IfOk result (λ batch. IsSorted (map T.mapped entries.now) (map indexed_mapping batch.items)) }
 {
-    if let Some(batch) = sorted_by_insertion(alloc, entries)? {
-        return Ok(batch);
+    let batch = indexed(alloc, entries)?;
+    if batch.is_sorted_by_key(email_prefix) {
+        return sorted_groups(alloc, &InOrder::Given(&batch));
     }
-    let mut prefixed = with_prefixes(alloc, entries)?;
-    prefixed.sort_by(compare_prefixes)?;
-    sorted_groups(alloc, &prefixed)
+    let mut prefixed = with_prefixes(alloc, &batch)?;
+    drop(batch);
+    prefixed.sort_by_key(stored_prefix)?;
+    sorted_groups(alloc, &InOrder::Sorted(&prefixed))
 }
 
-// Inserts each entry before the last few with a greater key, and gives up if its place isn't found among these. It is
-// found for each entry of most mailmaps that are sorted by email, which then take a third of the memory of a sort.
-fn sorted_by_insertion<'e, 'a, T: HasEntry<'a>>(
+// The entries with their indexes. The clause `bytes` is for the lemma that texts with unequal prefixes are in the order
+// of these.
+fn indexed<'e, 'a, T: HasEntry<'a>>(
     alloc: Global,
     entries: &'e [T],
-) -> Result<Option<Vec<IndexedEntry<'e, 'a>>>, AllocError>
-    ensures { IfOk result (λ found. ForSome found
-        (λ batch. IsSorted (map T.mapped entries.now) (map indexed_mapping batch.items))) }
-{
-    let mut batch = Vec::with_capacity(alloc, entries.len())?;
-    for (index, item) in entries.iter().enumerate() {
-        let indexed = IndexedEntry {
-            index,
-            entry: item.entry(),
-        };
-        let Some(place) = place_among(&batch, &indexed) else {
-            return Ok(None);
-        };
-        batch.insert(place, indexed)?;
-    }
-    Ok(Some(batch))
-}
-
-// An entry with its index, and the prefix of its old email.
-#[derive(Drop)]
-struct PrefixedEntry<'e, 'a> {
-    prefix: u128,
-    indexed: IndexedEntry<'e, 'a>,
-}
-
-impl<'e, 'a> Model for PrefixedEntry<'e, 'a> {
-    ghost Value = { SpecEntry };
-
-    ghost view = { λ f. f.indexed };
-
-    ghost invariant = { λ f. IsKeyPrefix f.prefix (email_text (mapping_at f.indexed)) };
-}
-
-// The clause `bytes` is for the lemma that texts with unequal prefixes are in the order of these, which holds for bytes.
-fn with_prefixes<'e, 'a, T: HasEntry<'a>>(
-    alloc: Global,
-    entries: &'e [T],
-) -> Result<Vec<PrefixedEntry<'e, 'a>>, AllocError>
+) -> Result<Vec<IndexedEntry<'e, 'a>>, AllocError>
     ensures indexed { IfOk result
         (λ batch. map indexed_mapping batch.items ≡ enumerate_from 0 (map T.mapped entries.now)) }
     ensures bytes { IfOk result (λ batch. All (λ p. AreBytes (email_text (mapping_at p))) batch.items) }
@@ -90,59 +53,97 @@ fn with_prefixes<'e, 'a, T: HasEntry<'a>>(
     let mut batch = Vec::with_capacity(alloc, entries.len())?;
     for (index, item) in entries.iter().enumerate() {
         let entry = item.entry();
-        batch.push(with_prefix(IndexedEntry { index, entry }))?;
+        has_bytes(entry.old_email());
+        batch.push(IndexedEntry { index, entry })?;
     }
     Ok(batch)
 }
 
-fn with_prefix<'e, 'a>(indexed: IndexedEntry<'e, 'a>) -> PrefixedEntry<'e, 'a>
-    ensures same { result ≡ indexed.entry }
-    ensures bytes { AreBytes (email_text (mapping_at result)) }
+// Any text consists of bytes.
+fn has_bytes(text: &[u8])
+    ensures { AreBytes (folded text.now) }
+{}
+
+fn email_prefix(indexed: &IndexedEntry) -> u128
+    ensures { result ≡ email_prefix indexed.now }
 {
-    let prefix = key_prefix(indexed.entry.old_email());
-    PrefixedEntry { prefix, indexed }
+    key_prefix(indexed.entry.old_email())
 }
 
-// How many entries an insertion looks at. So up to as many entries of an email may come in any order.
-const MAX_COMPARED: usize = 8;
-
-// The index to insert an entry at so that the keys still ascend, `None` if all of the last few have greater keys.
-#[inline(always)]
-fn place_among(batch: &[IndexedEntry], entry: &IndexedEntry) -> Option<usize>
-    ensures within { ForSome result (λ place. place ≤ length batch.now) }
-    ensures above { ForSome result (λ place. 0 < place → HoldsAt
-        (λ other. is_lt (key_cmp (key (mapping_at entry.now)) (key (mapping_at other))) ≡ false)
-        batch.now (place - 1)) }
-    ensures below { ForSome result (λ place. AllByRecursion
-        (λ other. key_cmp (key (mapping_at entry.now)) (key (mapping_at other)) ≡ Ordering.Less)
-        (drop place batch.now)) }
+fn with_prefixes<'e, 'a>(
+    alloc: Global,
+    batch: &[IndexedEntry<'e, 'a>],
+) -> Result<Vec<PrefixedEntry<'e, 'a>>, AllocError>
+    ensures { IfOk result (λ prefixed. prefixed.items ≡ batch.now) }
 {
-    let first = batch.len().saturating_sub(MAX_COMPARED);
-    let mut place = batch.len();
-    while first < place {
-        if !compare_keys(entry, &batch[place - 1]).is_lt() {
-            return Some(place);
-        }
-        place -= 1;
+    let mut prefixed = Vec::with_capacity(alloc, batch.len())?;
+    for indexed in batch {
+        prefixed.push(with_prefix(*indexed))?;
     }
-    if place == 0 { Some(0) } else { None }
+    Ok(prefixed)
+}
+
+// Entries in the order of their prefixes: as they were given, or sorted, which takes more memory.
+#[derive(Clone, Copy)]
+enum InOrder<'s, 'e, 'a> {
+    Given(&'s [IndexedEntry<'e, 'a>]),
+    Sorted(&'s [PrefixedEntry<'e, 'a>]),
+}
+
+impl<'e, 'a> InOrder<'_, 'e, 'a> {
+    fn len(&self) -> usize
+        ensures { result ≡ length (in_order self.now) }
+    {
+        match *self {
+            InOrder::Given(entries) => entries.len(),
+            InOrder::Sorted(entries) => entries.len(),
+        }
+    }
+
+    fn prefix(&self, index: usize) -> u128
+        requires { index < length (in_order self.now) }
+        ensures { (d : SpecEntry) → result ≡ email_prefix (slice_index_or (in_order self.now) index d) }
+    {
+        match *self {
+            InOrder::Given(entries) => email_prefix(at(entries, index)),
+            InOrder::Sorted(entries) => stored_prefix(at(entries, index)),
+        }
+    }
+
+    fn entry(&self, index: usize) -> IndexedEntry<'e, 'a>
+        requires { index < length (in_order self.now) }
+        ensures { result ≡ slice_index_or (in_order self.now) index result }
+    {
+        match *self {
+            InOrder::Given(entries) => *at(entries, index),
+            InOrder::Sorted(entries) => indexed_entry(at(entries, index)),
+        }
+    }
+}
+
+fn at<T>(entries: &[T], index: usize) -> &T
+    requires { index < length entries.now }
+    ensures { result.now ≡ slice_index_or entries.now index result.now }
+{
+    &entries[index]
 }
 
 // Sorts entries by key that are in the order of their prefixes already.
 fn sorted_groups<'e, 'a>(
     alloc: Global,
-    prefixed: &[PrefixedEntry<'e, 'a>],
+    entries: &InOrder<'_, 'e, 'a>,
 ) -> Result<Vec<IndexedEntry<'e, 'a>>, AllocError>
-    requires bytes { All (λ p. AreBytes (email_text (mapping_at p))) prefixed.now }
-    requires ascending { IsNonDecreasingBy email_prefix prefixed.now }
-    ensures { IfOk result (λ batch. IsSortedFrom prefixed.now batch.items) }
+    requires bytes { All (λ p. AreBytes (email_text (mapping_at p))) (in_order entries.now) }
+    requires ascending { IsNonDecreasingBy email_prefix (in_order entries.now) }
+    ensures { IfOk result (λ batch. IsSortedFrom (in_order entries.now) batch.items) }
 {
-    let mut batch = Vec::with_capacity(alloc, prefixed.len())?;
+    let mut batch = Vec::with_capacity(alloc, entries.len())?;
     let mut group = Vec::new(alloc);
     let mut start = 0;
-    while start < prefixed.len() {
-        let end = prefix_group_end(prefixed, start);
-        replace_group(&mut group, &prefixed[start..end])?;
+    while start < entries.len() {
+        group.clear();
+        let end = push_group(&mut group, entries, start)?;
+        sort_name_prefixes(&mut group)?;
         sort_group(&mut group)?;
         batch.extend_from_slice(&group)?;
         start = end;
@@ -150,32 +151,52 @@ fn sorted_groups<'e, 'a>(
     Ok(batch)
 }
 
-fn replace_group<'e, 'a>(
+// Pushes the entries that have the prefix of the entry at an index, and returns the index after them. As prefixes
+// ascend, none is smaller.
+fn push_group<'e, 'a>(
     group: &mut Vec<IndexedEntry<'e, 'a>>,
-    prefixed: &[PrefixedEntry<'e, 'a>],
-) -> Result<(), AllocError>
-    ensures { OnOk result (group.new.items ≡ prefixed.now) }
+    entries: &InOrder<'_, 'e, 'a>,
+    start: usize,
+) -> Result<usize, AllocError>
+    requires start { start < length (in_order entries.now) }
+    requires empty { group.old.items ≡ [] }
+    ensures group { IfOk result (λ end. group.new.items ≡ take (end - start) (drop start (in_order entries.now))) }
+    ensures after { IfOk result (λ end. start < end) }
+    ensures within { IfOk result (λ end. end ≤ length (in_order entries.now)) }
+    ensures greater { IfOk result (λ end. (d : SpecEntry) → end < length (in_order entries.now)
+        → email_prefix (slice_index_or (in_order entries.now) (end - 1) d)
+        < email_prefix (slice_index_or (in_order entries.now) end d)) }
 {
-    group.clear();
-    for entry in prefixed {
-        group.push(entry.indexed)?;
-    }
-    Ok(())
-}
-
-// The index after the entries that have the prefix of the entry at an index.
-fn prefix_group_end(prefixed: &[PrefixedEntry], start: usize) -> usize
-    requires { start < length prefixed.now }
-    ensures after { start < result }
-    ensures within { result ≤ length prefixed.now }
-    ensures greater { (d : SpecEntry) → result < length prefixed.now
-        → email_prefix (slice_index_or prefixed.now (result - 1) d) < email_prefix (slice_index_or prefixed.now result d) }
-{
+    let (len, prefix) = (entries.len(), entries.prefix(start));
+    group.push(entries.entry(start))?;
     let mut end = start + 1;
-    while end < prefixed.len() && !compare_prefixes(&prefixed[end - 1], &prefixed[end]).is_lt() {
+    while end < len && entries.prefix(end) <= prefix {
+        group.push(entries.entry(end))?;
         end += 1;
     }
-    end
+    Ok(end)
+}
+
+// So few entries are sorted by insertion.
+const FEW: usize = 20;
+
+// Sorts many entries by the prefixes of their old names, so that few texts are compared after it.
+fn sort_name_prefixes(group: &mut Vec<IndexedEntry>) -> Result<(), AllocError>
+    ensures permutation { IsPermutation group.old.items group.new.items }
+    ensures keyed { (k : Key) → of_key (map mapping_at group.old.items) k ≡ of_key (map mapping_at group.new.items) k }
+{
+    if group.len() <= FEW {
+        return Ok(());
+    }
+    group.sort_by_cached_key(name_prefix)
+}
+
+// The prefix of an old name, 0 if there is none.
+fn name_prefix(indexed: &IndexedEntry) -> u128
+    ensures { result ≡ name_prefix indexed.now }
+{
+    let name = indexed.entry.old_name().unwrap_or(&[]);
+    key_prefix(name)
 }
 
 // Sorts entries by key. If all have the same email, as most with the same prefix do, only their names are compared.
@@ -183,23 +204,18 @@ fn sort_group(group: &mut Vec<IndexedEntry>) -> Result<(), AllocError>
     requires { 0 < length group.old.items }
     ensures { OnOk result (IsSortedFrom group.old.items group.new.items) }
 {
+    if group.len() == 1 {
+        return Ok(());
+    }
     if email_group_len(group) == group.len() {
         return group.sort_by(compare_old_names);
     }
     group.sort_by(compare_keys)
 }
 
-#[inline(always)]
-fn compare_prefixes(a: &PrefixedEntry, b: &PrefixedEntry) -> Ordering
-    ensures { result ≡ nat_cmp (email_prefix a.now) (email_prefix b.now) }
-{
-    a.prefix.cmp(&b.prefix)
-}
-
 // Compares keys: the old emails, then the old names.
-#[inline(always)]
 fn compare_keys(a: &IndexedEntry, b: &IndexedEntry) -> Ordering
-    ensures { result ≡ key_cmp (key (mapping_at a.now)) (key (mapping_at b.now)) }
+    ensures { result ≡ key_cmp (key_at a.now) (key_at b.now) }
 {
     match cmp_ignore_ascii_case(a.entry.old_email(), b.entry.old_email()) {
         Ordering::Equal => compare_old_names(a, b),

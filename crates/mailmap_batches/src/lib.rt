@@ -4,3 +4,4 @@
 pub mod batch;
 pub mod groups;
 pub mod indexed;
+mod prefixed;

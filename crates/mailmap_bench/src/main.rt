@@ -1,14 +1,10 @@
 //! Times calls of gix_mailmap on mailmaps in files, to compare them with the same calls of peers.
 #![tactic(auto)]
 
-mod contacts;
 mod input;
-mod laps;
 mod modes;
-mod tally;
 
-use anyhow::{Result, bail};
-use laps::Laps;
+use anyhow::Result;
 use std::env;
 
 const USAGE: &str = "\
@@ -22,28 +18,19 @@ usage: mailmap_bench MODE ARGS
     bench-merge1 FILE                merges the entries of FILE one by one
     bench-merge FILE K               merges the entries of FILE in batches of K
     bench-merge-last FILE N          merges the last N entries of FILE one by one into the snapshot of the others
-Each prints one line: how often, and the nanoseconds of all, the quickest, the middle and the slowest one.
+Each prints one line: the nanoseconds of the quickest time and of the middle one, and what was counted.
 ";
 
 fn main(rt: HostRuntime) -> Result<()> {
     let words: Vec<String> = env::args(&rt)?.collect(rt.alloc())?;
-    match words.as_slice() {
-        [_, mode, words @ ..] => measure(&rt, mode, words, &mut Laps::new(rt.alloc())),
-        _ => Ok(print!(rt; "{USAGE}")?),
-    }
-}
-
-fn measure(rt: &HostRuntime, mode: &str, words: &[String], laps: &mut Laps) -> Result<()> {
-    match mode {
-        "bench-parse" => modes::walks(rt, words, laps),
-        "bench-build" => modes::builds(rt, words, laps),
-        "bench-lookup" => modes::lookups(rt, words, laps),
-        "bench-answer" => modes::answers(rt, words, laps),
-        "bench-check" => modes::checks(rt, words, laps),
-        "bench-compact" => modes::compactions(rt, words, laps),
-        "bench-merge1" => modes::merges(rt, mode, words, 1, laps),
-        "bench-merge" => modes::merges(rt, mode, words, input::number(words, 1)?, laps),
-        "bench-merge-last" => modes::last_merges(rt, words, laps),
-        _ => bail!("unknown mode {mode}"),
-    }
+    let [_, mode, words @ ..] = words.as_slice() else {
+        return Ok(print!(rt; "{USAGE}")?);
+    };
+    let mut laps = Vec::new(rt.alloc());
+    let counts = modes::measure(&rt, mode, words, &mut laps)?;
+    laps.sort_unstable();
+    let least = laps.first().copied().unwrap_or(0);
+    let median = laps.get(laps.len() / 2).copied().unwrap_or(0);
+    println!(rt; "{mode} min_ns={least} median_ns={median} {counts}")?;
+    Ok(())
 }

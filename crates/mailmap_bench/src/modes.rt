@@ -1,31 +1,110 @@
 //! What is timed. Each mode adds up its results, so that the compiler can't drop any of the work.
-ghost use Rattle.std.specs.Prelude.{◌<◌};
 
-use crate::contacts::contacts;
-use crate::input::{file, number};
-use crate::laps::Laps;
-use crate::tally::Tally;
-use anyhow::Result;
+use crate::input::{contacts, file, number};
+use anyhow::{Context, Result, bail};
 use gix_mailmap::actor::SignatureRef;
 use gix_mailmap::snapshot::Snapshot;
 use gix_mailmap::{Entry, check, parse, parse_ignore_errors};
 use std::alloc::{AllocError, Global};
-use std::iter;
-use std::rt::Runtime;
 use std::time::Instant;
+use std::{fmt, iter};
 
-/// Iterates over the items of a file.
-pub fn walks<R: Runtime + AllocGlobal>(rt: &R, words: &[String], laps: &mut Laps) -> Result<()> {
-    let buf = file(rt, words, 0)?;
-    let tally = often(rt, number(words, 1)?, laps, || walk(&buf))?;
-    let bytes = buf.len();
-    let laps = laps.summary();
-    println!(rt; "bench-parse {laps} bytes={bytes} items={tally}")?;
-    Ok(())
+/// The number of items, and the length of their texts together.
+#[derive(Clone, Copy)]
+struct Tally {
+    items: usize,
+    bytes: usize,
+}
+
+const NONE: Tally = Tally { items: 0, bytes: 0 };
+
+impl Tally {
+    fn add(&mut self, bytes: usize) {
+        self.items = self.items.wrapping_add(1);
+        self.bytes = self.bytes.wrapping_add(bytes);
+    }
+}
+
+impl fmt::Display for Tally {
+    fn fmt<W: fmt::Write>(&self, f: &mut fmt::Formatter<W>) -> fmt::Result {
+        write!(f, "{} texts={}", self.items, self.bytes)
+    }
+}
+
+/// Does what a mode says, and returns what it counted. `laps` gets the nanoseconds of each round.
+pub fn measure(
+    rt: &HostRuntime,
+    mode: &str,
+    words: &[String],
+    laps: &mut Vec<u128>,
+) -> Result<String> {
+    let map = file(rt, words, 0)?;
+    match mode {
+        "bench-parse" => {
+            let tally = often(rt, number(words, 1)?, laps, || Ok(walk(&map)))?;
+            Ok(format!(in rt.alloc(); "items={tally}")?)
+        }
+        "bench-build" => {
+            let build = || Snapshot::from_bytes(rt.alloc(), &map);
+            let snapshot = often(rt, number(words, 1)?, laps, build)?;
+            Ok(format!(in rt.alloc(); "entries={}", listed(&snapshot))?)
+        }
+        "bench-compact" => {
+            let compact = || check::compact(rt.alloc(), &[map.as_slice()]);
+            let text = often(rt, number(words, 1)?, laps, compact)?;
+            Ok(format!(in rt.alloc(); "texts={}", text.len())?)
+        }
+        "bench-merge1" => merges(rt, &map, 1, laps),
+        "bench-merge" => merges(rt, &map, number(words, 1)?, laps),
+        "bench-merge-last" => last_merges(rt, &map, number(words, 1)?, laps),
+        _ => measure_contacts(rt, mode, &map, words, laps),
+    }
+}
+
+fn measure_contacts(
+    rt: &HostRuntime,
+    mode: &str,
+    map: &[u8],
+    words: &[String],
+    laps: &mut Vec<u128>,
+) -> Result<String> {
+    let text = file(rt, words, 1)?;
+    let rounds = number(words, 2)?;
+    if mode == "bench-check" {
+        let answers = often(rt, rounds, laps, || check::check(rt.alloc(), &[map], &text))?;
+        return Ok(format!(in rt.alloc(); "texts={}", answers.len())?);
+    }
+    let snapshot = Snapshot::from_bytes(rt.alloc(), map)?;
+    let contacts = contacts(rt.alloc(), &text)?;
+    let tally = match mode {
+        "bench-lookup" => often(rt, rounds, laps, || Ok(look_up(&snapshot, &contacts)))?,
+        "bench-answer" => often(rt, rounds, laps, || Ok(answer(&snapshot, &contacts)))?,
+        _ => bail!("unknown mode {mode}"),
+    };
+    Ok(format!(in rt.alloc(); "contacts={} hits={tally}", contacts.len())?)
+}
+
+// Times each round, and returns what the last one made. What the one before made is dropped first.
+fn often<T: Drop, W: Fn() -> Result<T, AllocError>>(
+    rt: &HostRuntime,
+    rounds: usize,
+    laps: &mut Vec<u128>,
+    work: W,
+) -> Result<T>
+    requires { W.IsAlwaysCallable work }
+{
+    let mut made = None;
+    for _ in 0..rounds {
+        made = None;
+        let start = Instant::now(rt)?;
+        made = Some(work()?);
+        laps.push(start.elapsed(rt)?.as_nanos())?;
+    }
+    made.context("no round was asked for")
 }
 
 fn walk(buf: &[u8]) -> Tally {
-    let mut tally = Tally::new();
+    let mut tally = NONE;
     for item in parse(buf) {
         match item {
             Ok(entry) => tally.add(entry_len(&entry)),
@@ -43,94 +122,19 @@ fn entry_len(entry: &Entry<'_>) -> usize {
 }
 
 fn optional_len(text: Option<&[u8]>) -> usize {
-    match text {
-        Some(text) => text.len(),
-        None => 0,
-    }
-}
-
-/// Builds the snapshot of a file.
-pub fn builds<R: Runtime + AllocGlobal>(rt: &R, words: &[String], laps: &mut Laps) -> Result<()> {
-    let buf = file(rt, words, 0)?;
-    let mut tally = Tally::new();
-    for _ in 0..number(words, 1)? {
-        tally = build(rt, &buf, laps)?;
-    }
-    let bytes = buf.len();
-    let laps = laps.summary();
-    println!(rt; "bench-build {laps} bytes={bytes} entries={tally}")?;
-    Ok(())
-}
-
-fn build<R: Runtime + AllocGlobal>(rt: &R, buf: &[u8], laps: &mut Laps) -> Result<Tally> {
-    let start = Instant::now(rt)?;
-    let snapshot = Snapshot::from_bytes(rt.alloc(), buf)?;
-    laps.end(rt, start)?;
-    Ok(listed(&snapshot))
+    text.unwrap_or(b"").len()
 }
 
 fn listed(snapshot: &Snapshot) -> Tally {
-    let mut tally = Tally::new();
+    let mut tally = NONE;
     for entry in snapshot.iter() {
         tally.add(entry_len(&entry));
     }
     tally
 }
 
-/// Looks up contacts in the snapshot of a file.
-pub fn lookups<R: Runtime + AllocGlobal>(rt: &R, words: &[String], laps: &mut Laps) -> Result<()> {
-    let snapshot = snapshot_of(rt, words)?;
-    let text = file(rt, words, 1)?;
-    let contacts = contacts(rt.alloc(), &text)?;
-    let tally = often(
-        rt,
-        number(words, 2)?,
-        laps,
-        || look_up(&snapshot, &contacts),
-    )?;
-    let count = contacts.len();
-    let laps = laps.summary();
-    println!(rt; "bench-lookup {laps} contacts={count} hits={tally}")?;
-    Ok(())
-}
-
-/// Looks up contacts in the snapshot of a file, and reads the answers.
-pub fn answers<R: Runtime + AllocGlobal>(rt: &R, words: &[String], laps: &mut Laps) -> Result<()> {
-    let snapshot = snapshot_of(rt, words)?;
-    let text = file(rt, words, 1)?;
-    let contacts = contacts(rt.alloc(), &text)?;
-    let tally = often(rt, number(words, 2)?, laps, || answer(&snapshot, &contacts))?;
-    let count = contacts.len();
-    let laps = laps.summary();
-    println!(rt; "bench-answer {laps} contacts={count} answers={tally}")?;
-    Ok(())
-}
-
-fn snapshot_of<R: Runtime + AllocGlobal>(rt: &R, words: &[String]) -> Result<Snapshot> {
-    let buf = file(rt, words, 0)?;
-    Ok(Snapshot::from_bytes(rt.alloc(), &buf)?)
-}
-
-// Times each round, and returns the tally of the last one.
-fn often<R: Runtime, W: Fn() -> Tally>(
-    rt: &R,
-    rounds: usize,
-    laps: &mut Laps,
-    work: W,
-) -> Result<Tally>
-    requires { W.IsAlwaysCallable work }
-{
-    let mut tally = Tally::new();
-    for _ in 0..rounds {
-        let start = Instant::now(rt)?;
-        tally = work();
-        laps.end(rt, start)?;
-    }
-    Ok(tally)
-}
-
 fn look_up(snapshot: &Snapshot, contacts: &[SignatureRef<'_>]) -> Tally {
-    let mut tally = Tally::new();
+    let mut tally = NONE;
     for contact in contacts {
         if let Some(found) = snapshot.try_resolve_ref(*contact) {
             tally.add(optional_len(found.name).wrapping_add(optional_len(found.email)));
@@ -140,7 +144,7 @@ fn look_up(snapshot: &Snapshot, contacts: &[SignatureRef<'_>]) -> Tally {
 }
 
 fn answer(snapshot: &Snapshot, contacts: &[SignatureRef<'_>]) -> Tally {
-    let mut tally = Tally::new();
+    let mut tally = NONE;
     for contact in contacts {
         let (name, email) = match snapshot.try_resolve_ref(*contact) {
             Some(found) => (
@@ -162,138 +166,34 @@ fn read(text: &[u8]) -> usize {
     }
 }
 
-/// Merges the entries of a file in batches.
-pub fn merges<R: Runtime + AllocGlobal>(
-    rt: &R,
-    mode: &str,
-    words: &[String],
-    batch: usize,
-    laps: &mut Laps,
-) -> Result<()>
-    requires { 0 < batch }
-{
-    let buf = file(rt, words, 0)?;
-    let entries: Vec<Entry<'_>> = parse_ignore_errors(&buf).collect(rt.alloc())?;
-    merge_all(rt, mode, &entries, batch, laps)
-}
-
-fn merge_all<R: Runtime + AllocGlobal>(
-    rt: &R,
-    mode: &str,
-    entries: &[Entry<'_>],
-    batch: usize,
-    laps: &mut Laps,
-) -> Result<()>
-    requires { 0 < batch }
-{
-    let tally = merge(rt, entries, batch, laps)?;
+// Merges entries in batches of this many.
+fn merges(rt: &HostRuntime, map: &[u8], batch: usize, laps: &mut Vec<u128>) -> Result<String> {
+    let entries: Vec<Entry<'_>> = parse_ignore_errors(map).collect(rt.alloc())?;
+    let batch = batch.max(1);
+    let snapshot = often(rt, 1, laps, || merged(rt.alloc(), &entries, batch))?;
     let merges = entries.len().div_ceil(batch);
-    let laps = laps.summary();
-    println!(rt; "{mode} {laps} merges={merges} batch={batch} entries={tally}")?;
-    Ok(())
+    let tally = listed(&snapshot);
+    Ok(format!(in rt.alloc(); "merges={merges} entries={tally}")?)
 }
 
-fn merge<R: Runtime + AllocGlobal>(
-    rt: &R,
-    entries: &[Entry<'_>],
-    batch: usize,
-    laps: &mut Laps,
-) -> Result<Tally>
-    requires { 0 < batch }
-{
-    let start = Instant::now(rt)?;
-    let snapshot = merged(rt.alloc(), entries, batch)?;
-    laps.end(rt, start)?;
-    Ok(listed(&snapshot))
-}
-
-fn merged(alloc: Global, entries: &[Entry<'_>], batch: usize) -> Result<Snapshot, AllocError>
-    requires { 0 < batch }
-{
+fn merged(alloc: Global, entries: &[Entry<'_>], batch: usize) -> Result<Snapshot, AllocError> {
     let mut snapshot = Snapshot::empty(alloc);
-    for chunk in entries.chunks(batch) {
+    for chunk in entries.chunks(batch.max(1)) {
         snapshot.merge(chunk.iter().copied())?;
     }
     Ok(snapshot)
 }
 
-/// Merges the last entries of a file one by one into a snapshot of the others.
-pub fn last_merges<R: Runtime + AllocGlobal>(
-    rt: &R,
-    words: &[String],
-    laps: &mut Laps,
-) -> Result<()> {
-    let buf = file(rt, words, 0)?;
-    let count = number(words, 1)?;
-    let entries: Vec<Entry<'_>> = parse_ignore_errors(&buf).collect(rt.alloc())?;
+// Merges the last entries one by one into a snapshot of the others, and times each merge.
+fn last_merges(rt: &HostRuntime, map: &[u8], count: usize, laps: &mut Vec<u128>) -> Result<String> {
+    let entries: Vec<Entry<'_>> = parse_ignore_errors(map).collect(rt.alloc())?;
     let (first, last) = entries.split_at(entries.len().saturating_sub(count));
     let mut snapshot = Snapshot::new(rt.alloc(), first.iter().copied())?;
-    merge_each(rt, &mut snapshot, last, laps)?;
-    let tally = listed(&snapshot);
-    let merges = last.len();
-    let laps = laps.summary();
-    println!(rt; "bench-merge-last {laps} merges={merges} entries={tally}")?;
-    Ok(())
-}
-
-fn merge_each<R: Runtime + AllocGlobal>(
-    rt: &R,
-    snapshot: &mut Snapshot,
-    entries: &[Entry<'_>],
-    laps: &mut Laps,
-) -> Result<()> {
-    for entry in entries {
+    for entry in last {
         let start = Instant::now(rt)?;
         snapshot.merge(iter::once(*entry))?;
-        laps.end(rt, start)?;
+        laps.push(start.elapsed(rt)?.as_nanos())?;
     }
-    Ok(())
-}
-
-/// Answers a file of contacts using the snapshot of a file.
-pub fn checks<R: Runtime + AllocGlobal>(rt: &R, words: &[String], laps: &mut Laps) -> Result<()> {
-    let buf = file(rt, words, 0)?;
-    let contacts = file(rt, words, 1)?;
-    let mut len = 0;
-    for _ in 0..number(words, 2)? {
-        len = check_once(rt, &buf, &contacts, laps)?;
-    }
-    let laps = laps.summary();
-    println!(rt; "bench-check {laps} texts={len}")?;
-    Ok(())
-}
-
-fn check_once<R: Runtime + AllocGlobal>(
-    rt: &R,
-    buf: &[u8],
-    contacts: &[u8],
-    laps: &mut Laps,
-) -> Result<usize> {
-    let start = Instant::now(rt)?;
-    let answers = check::check(rt.alloc(), &[buf], contacts)?;
-    laps.end(rt, start)?;
-    Ok(answers.len())
-}
-
-/// Writes a file as a compact mailmap.
-pub fn compactions<R: Runtime + AllocGlobal>(
-    rt: &R,
-    words: &[String],
-    laps: &mut Laps,
-) -> Result<()> {
-    let buf = file(rt, words, 0)?;
-    let mut len = 0;
-    for _ in 0..number(words, 1)? {
-        len = compact(rt, &buf, laps)?;
-    }
-    let laps = laps.summary();
-    println!(rt; "bench-compact {laps} texts={len}")?;
-    Ok(())
-}
-
-fn compact<R: Runtime + AllocGlobal>(rt: &R, buf: &[u8], laps: &mut Laps) -> Result<usize> {
-    let start = Instant::now(rt)?;
-    let text = check::compact(rt.alloc(), &[buf])?;
-    laps.end(rt, start)?;
-    Ok(text.len())
+    let tally = listed(&snapshot);
+    Ok(format!(in rt.alloc(); "merges={} entries={tally}", last.len())?)
 }

@@ -1,7 +1,5 @@
-pub mod Counting
-pub mod Entries
+pub use Rattle.contact_counter.proofs.Entries
 pub mod Needing
 pub mod Propers
-pub mod Steps
-pub mod Sums
-pub mod Tallied
+pub use Rattle.contact_counter.proofs.Steps
+pub use Rattle.contact_counter.proofs.Tallied

@@ -1,6 +1,6 @@
 -- Finding proper answers.
-use Rattle.std.proofs.Common.{◌≡◌, ◌∙◌, Bool, true, false, cond, Option, None, Some, List, [], ◌∷◌, ◌++◌, Bor, ap, append-nil, bytes_eq, filter, flat_map, option_map, option_to_list, refl, arith, rules}
-use Rattle.std.specs.Prelude.{if◌then◌else◌, is_none, is_some, not}
+use Rattle.std.proofs.Common.{◌≡◌, ◌∙◌, Bool, true, false, cond, Option, Some, List, [], ◌∷◌, ◌++◌, Bor, ap, append-nil, bytes_eq, filter, flat_map, option_map, option_to_list, refl, arith, rules}
+use Rattle.std.specs.Prelude.{if◌then◌else◌, is_none}
 use Rattle.std.specs.BTreeMap.{BTreeMap, get, is_at}
 use Rattle.std.specs.Cmp.{IsTotalOrder}
 use Rattle.std.proofs.lemmas.Cmp.{nat_list_cmp_total, on_total}
@@ -12,7 +12,7 @@ use Rattle.mailmap_contacts.specs.Comparisons.{ContactFinding, other_proper, sha
 use Rattle.mailmap_contacts.specs.Contacts.{Tally}
 use Rattle.mailmap_contacts.specs.Folded.{folded_text}
 use Rattle.mailmap_contacts.specs.Proper.{better, preferred, preferred_of, proper}
-use Rattle.mailmap_contacts.specs.declared.answers.Tally.{Tally as TheTally}
+use Rattle.contact_counter.specs.declared.tallies.Tally.{Tally as TheTally}
 use Rattle.mailmap_contacts.specs.declared.folded.Folded.{Folded}
 use Rattle.mailmap_contacts.specs.declared.proper.Shared.{Shared}
 
@@ -27,8 +27,7 @@ proper-push [] t = refl
 proper-push (x ∷ ts) t = ap Some (preferred-push x ts t)
 
 proper_if : (b : Bool) (ts : List Tally) (t : Tally) → proper (ts ++ cond b (t ∷ []) []) ≡ cond b (Some (better (proper ts) t)) (proper ts)
-proper_if true ts t = proper-push ts t
-proper_if false ts t = ap proper (append-nil ts)
+proper_if b ts t = grind (arith, common_steps, proper-push)
 
 pub propers_more : (shared : Shared) (ts all : List Tally) (m n : BTreeMap Folded (Bor TheTally)) (t : Tally) → ArePropers shared ts m
     → ((key : Folded) → option_map tally_at (get folded_cmp n key)
@@ -59,21 +58,14 @@ module _ (field : Tally → Text) (t : Tally) (k : Folded) (is : k.text.now ≡ 
 
 -- ---- another proper one
 
-pub none_by_some : (o : Option (Bor TheTally)) (b : Bool) → is_some o ≡ not b → b ≡ is_none o
-none_by_some None true e = refl
-none_by_some None false e = cc
-none_by_some (Some a) true e = cc
-none_by_some (Some a) false e = refl
-
 -- one more comparison
-pub compared_more : (shared : Shared) (all ts more : List Tally) (a : Tally) (o : Option (Bor TheTally)) (none : Bool) (begun old new : List ContactFinding) (proper proper' : List Tally)
-    → option_map tally_at o ≡ other_proper (shared_field shared) all a → none ≡ is_none o
+pub compared_more : (shared : Shared) (all ts more : List Tally) (a : Tally) (o : Option (Bor TheTally)) (begun old new : List ContactFinding) (proper proper' : List Tally)
+    → option_map tally_at o ≡ other_proper (shared_field shared) all a
     → new ≡ old ++ option_to_list (option_map (finding_by shared a) (option_map tally_at o))
-    → proper' ≡ proper ++ (if none then a ∷ [] else [])
-    → more ≡ ts ++ a ∷ []
+    → proper' ≡ proper ++ (if is_none o then a ∷ [] else []) → more ≡ ts ++ a ∷ []
     → old ≡ begun ++ flat_map (λ t. option_to_list (option_map (finding_by shared t) (other_proper (shared_field shared) all t))) ts
     → proper ≡ filter (λ t. is_none (other_proper (shared_field shared) all t)) ts
     → (new ≡ begun ++ flat_map (λ t. option_to_list (option_map (finding_by shared t) (other_proper (shared_field shared) all t))) more)
     × (proper' ≡ filter (λ t. is_none (other_proper (shared_field shared) all t)) more)
-compared_more shared all ts more a o none begun old new proper proper' other none_is new_is proper_is more_is found left =
+compared_more shared all ts more a o begun old new proper proper' other new_is proper_is more_is found left =
     grind (arith, common_steps)

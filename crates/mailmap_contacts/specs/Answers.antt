@@ -7,27 +7,16 @@ use Rattle.std.specs.Ordering.{nat_cmp, on}
 use Rattle.std.specs.declared.cmp.Ordering.{Ordering}
 use Rattle.mailmap_entries.specs.Folding.{Text}
 use Rattle.mailmap_contacts.specs.Comparisons.{ContactFinding, email_of, git_answers, name_of, no_contact, same_email, same_name, shares}
-use Rattle.mailmap_contacts.specs.Contacts.{Contact, Tally}
+pub use Rattle.contact_counter.specs.Counts.{answer_key, answer_key_tally, tally_of}
+use Rattle.contact_counter.specs.Contacts.{Tally}
 use Rattle.mailmap_contacts.specs.Folded.{folded_text}
 use Rattle.mailmap_contacts.specs.Proper.{proper}
-use Rattle.mailmap_contacts.specs.declared.answers.Tally.{Tally as TheTally}
+use Rattle.contact_counter.specs.declared.tallies.Tally.{Tally as TheTally}
 use Rattle.mailmap_contacts.specs.declared.comparisons.ContactFinding.{ContactFinding as TheFinding}
 use Rattle.mailmap_contacts.specs.declared.comparisons.ContactFinding.TheVariants.{GitAnswers, NoContact, Shares}
 use Rattle.mailmap_contacts.specs.declared.folded.Folded.{Folded}
-use Rattle.mailmap_contacts.specs.declared.occurrences.Occurrences.{Occurrences}
 use Rattle.mailmap_contacts.specs.declared.proper.Shared.{Shared}
 use Rattle.mailmap_contacts.specs.declared.proper.Shared.TheVariants.{Email, Name}
-
--- the specification's view of an answer
-abbrev pub tally_of : TheTally → Tally
-tally_of a = record { contact = record { name = a.name.now; email = a.email.now }; seen = a.seen }
-
--- the answer that a key shows
-abbrev pub answer_key : Bor Text × Bor Text → Contact
-answer_key k = record { name = k.0.now; email = k.1.now }
-
-abbrev pub answer_key_tally : (Bor Text × Bor Text) × Occurrences → Tally
-answer_key_tally e = record { contact = answer_key e.0; seen = e.1 }
 
 abbrev pub tally_at : Bor TheTally → Tally
 tally_at a = tally_of a.now
@@ -53,6 +42,5 @@ folded_cmp = on folded_text (slice_cmp nat_cmp)
 
 -- the map has the proper one of the answers that share a text, for each text
 abbrev pub ArePropers : Shared → List Tally → BTreeMap Folded (Bor TheTally) → Type 0
-ArePropers shared answers propers = (key : Folded)
-    → option_map tally_at (get folded_cmp propers key)
+ArePropers shared answers propers = (key : Folded) → option_map tally_at (get folded_cmp propers key)
     ≡ proper (filter (shares (shared_field shared) key.text.now) answers)

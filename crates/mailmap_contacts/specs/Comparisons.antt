@@ -1,5 +1,5 @@
 -- The findings about contacts: answers that share an email or a name with a proper one, and answers of git.
-use Rattle.std.specs.Prelude.{◌+◌, ℕ, Bool, if◌then◌else◌, is_none, List, [], ◌∷◌, ◌++◌, Option, None, Some, filter, map}
+use Rattle.std.specs.Prelude.{ℕ, Bool, if◌then◌else◌, is_none, List, ◌++◌, Option, None, Some, filter, map}
 use Rattle.std.specs.Prelude.{option_to_list}
 use Rattle.std.specs.List.{flat_map}
 use Rattle.std.specs.List.Sorted.{IsPermutation, IsSortedByKey}
@@ -9,8 +9,8 @@ use Rattle.std.specs.Str.{bytes_eq}
 use Rattle.std.specs.declared.cmp.Ordering.{Ordering}
 use Rattle.mailmap_entries.specs.Entries.{Mapping}
 use Rattle.mailmap_entries.specs.Folding.{Text, folded}
-use Rattle.mailmap_findings.specs.Needs.{is_no_contact}
-use Rattle.mailmap_contacts.specs.Contacts.{Tally, AreTallies, answers_to, same_contact}
+pub use Rattle.contact_counter.specs.Contacts.{no_contacts_from}
+use Rattle.contact_counter.specs.Contacts.{Tally, AreTallies, answers_to, same_contact}
 use Rattle.mailmap_contacts.specs.Proper.{has_text, proper}
 
 -- A line is no contact, or an answer isn't the proper one of those with its email, or with its name; or git answers
@@ -81,15 +81,6 @@ propers field answers = filter (λ a. is_none (other_proper field answers a)) an
 abbrev pub comparisons : List Tally → List ContactFinding
 comparisons answers = compared email_of same_email (with_text email_of answers)
     ++ compared name_of same_name (with_text name_of (propers email_of (with_text email_of answers)))
-
--- the number of a line that is neither blank nor a contact
-abbrev pub unless_contact : ℕ → Text → List ℕ
-unless_contact number line = if is_no_contact line then number ∷ [] else []
-
--- the numbers of all such lines, the first of which has this number
-abbrev pub no_contacts_from : ℕ → List Text → List ℕ
-no_contacts_from number [] = []
-no_contacts_from number (line ∷ rest) = unless_contact number line ++ no_contacts_from (number + 1) rest
 
 -- `found` has the findings about the contacts on lines, with a mailmap's mappings and git's other answers, in the order
 -- of their lines.

@@ -1,6 +1,6 @@
 pub mod Answers
 pub mod Comparisons
-pub mod Contacts
-pub mod Counts
+pub use Rattle.contact_counter.specs.Contacts
+pub use Rattle.contact_counter.specs.Counts
 pub mod Folded
 pub mod Proper

@@ -1,12 +1,8 @@
 -- The proper one of several answers.
 use Rattle.std.specs.Prelude.{◌==◌, ◌&&◌, ◌||◌, Bool, true, false, if◌then◌else◌, List, [], ◌∷◌, Option, None, Some, nat_lt}
-use Rattle.mailmap_entries.specs.Folding.{Text}
-use Rattle.mailmap_contacts.specs.Contacts.{Tally}
-use Rattle.mailmap_contacts.specs.declared.occurrences.Occurrences.{Occurrences}
-
-abbrev pub has_text : Text → Bool
-has_text [] = false
-has_text (b ∷ s) = true
+use Rattle.contact_counter.specs.Contacts.{Tally}
+pub use Rattle.contact_counter.specs.Contacts.{has_text}
+use Rattle.contact_counter.specs.declared.occurrences.Occurrences.{Occurrences}
 
 -- what comes more often than something else; or as often, and first on an earlier line
 abbrev pub comes_more : Occurrences → Occurrences → Bool
@@ -14,9 +10,7 @@ comes_more a b = nat_lt b.count a.count || (a.count == b.count && nat_lt a.first
 
 -- Whether a is preferred to b: one with a name to one without, and otherwise the one that comes more.
 abbrev pub is_preferred : Tally → Tally → Bool
-is_preferred a b =
-    if has_text a.contact.name then
-    (if has_text b.contact.name then comes_more a.seen b.seen else true)
+is_preferred a b = if has_text a.contact.name then (if has_text b.contact.name then comes_more a.seen b.seen else true)
     else (if has_text b.contact.name then false else comes_more a.seen b.seen)
 
 abbrev pub preferred : Tally → Tally → Tally

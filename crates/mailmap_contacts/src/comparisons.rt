@@ -2,9 +2,8 @@
 ghost use Rattle.std.specs.Prelude.{◌≡◌, ◌++◌, ◌∷◌, [], IfOk, OnOk, None, if◌then◌else◌, is_none, map, option_map, option_to_list};
 ghost use Rattle.std.specs.List.Sorted.{IsPermutation, IsSortedByKey};
 ghost use Rattle.mailmap_contacts.specs.Answers.{shared_field, finding_by, finding_view, tally_at, tally_of};
-ghost use Rattle.mailmap_contacts.specs.Comparisons.{compared, comparisons, email_of, git_answers as spec_git_answers};
-ghost use Rattle.mailmap_contacts.specs.Comparisons.{name_of, no_contact, place_cmp, finding_place, propers};
-ghost use Rattle.mailmap_contacts.specs.Comparisons.{same_email, same_name, with_text};
+ghost use Rattle.mailmap_contacts.specs.Comparisons.{compared, comparisons, git_answers as spec_git_answers};
+ghost use Rattle.mailmap_contacts.specs.Comparisons.{no_contact, place_cmp, finding_place, propers, with_text};
 
 use crate::answers::Tally;
 pub use crate::proper::Shared;
@@ -42,8 +41,11 @@ pub fn findings_of<'r, 'a>(
 {
     let mut findings = Vec::new(alloc);
     push_no_contacts(&mut findings, lines_without_contact)?;
-    let proper = compare_emails(alloc, answers, &mut findings)?;
-    compare_names(alloc, proper.as_slice(), &mut findings)?;
+    let all = references(alloc, answers)?;
+    let mailed = with_text(alloc, Shared::Email, all.as_slice())?;
+    let proper = compare(alloc, Shared::Email, mailed.as_slice(), &mut findings)?;
+    let named = with_text(alloc, Shared::Name, proper.as_slice())?;
+    compare(alloc, Shared::Name, named.as_slice(), &mut findings)?;
     push_git_answers(&mut findings, git_answers)?;
     sort_by_places(&mut findings);
     Ok(findings)
@@ -62,74 +64,34 @@ fn push_no_contacts(
     Ok(())
 }
 
-// Compares answers by their emails, and returns the proper ones.
-fn compare_emails<'r, 'a>(
-    alloc: Global,
-    answers: &'r [Tally<'a>],
-    findings: &mut Vec<ContactFinding<'r, 'a>>,
-) -> Result<Vec<&'r Tally<'a>>, AllocError>
-    ensures findings { OnOk result (map finding_view findings.new.items ≡ map finding_view findings.old.items
-        ++ compared email_of same_email (with_text email_of (map tally_of answers.now))) }
-    ensures proper { IfOk result (λ proper. map tally_at proper.items
-        ≡ propers email_of (with_text email_of (map tally_of answers.now))) }
-{
-    let with_email = with_email(alloc, answers)?;
-    compare(alloc, Shared::Email, with_email.as_slice(), findings)
-}
-
-fn with_email<'r, 'a>(
+fn references<'r, 'a>(
     alloc: Global,
     answers: &'r [Tally<'a>],
 ) -> Result<Vec<&'r Tally<'a>>, AllocError>
-    ensures { IfOk result (λ some. map tally_at some.items
-        ≡ with_text email_of (map tally_of answers.now)) }
+    ensures { IfOk result (λ all. map tally_at all.items ≡ map tally_of answers.now) }
 {
-    let mut some = Vec::new(alloc);
+    let mut all = Vec::with_capacity(alloc, answers.len())?;
     for answer in answers {
-        push_if(&mut some, has_text(answer.email), answer)?;
+        all.push(answer)?;
     }
-    Ok(some)
+    Ok(all)
 }
 
-fn compare_names<'r, 'a>(
+fn with_text<'r, 'a>(
     alloc: Global,
-    answers: &[&'r Tally<'a>],
-    findings: &mut Vec<ContactFinding<'r, 'a>>,
-) -> Result<(), AllocError>
-    ensures { OnOk result (map finding_view findings.new.items ≡ map finding_view findings.old.items
-        ++ compared name_of same_name (with_text name_of (map tally_at answers.now))) }
-{
-    let with_name = with_name(alloc, answers)?;
-    compare(alloc, Shared::Name, with_name.as_slice(), findings)?;
-    Ok(())
-}
-
-fn with_name<'r, 'a>(
-    alloc: Global,
+    shared: Shared,
     answers: &[&'r Tally<'a>],
 ) -> Result<Vec<&'r Tally<'a>>, AllocError>
     ensures { IfOk result (λ some. map tally_at some.items
-        ≡ with_text name_of (map tally_at answers.now)) }
+        ≡ with_text (shared_field shared) (map tally_at answers.now)) }
 {
     let mut some = Vec::new(alloc);
     for answer in answers {
-        push_if(&mut some, has_text(answer.name), answer)?;
+        if has_text(shared.text(answer)) {
+            some.push(*answer)?;
+        }
     }
     Ok(some)
-}
-
-fn push_if<'r, 'a>(
-    answers: &mut Vec<&'r Tally<'a>>,
-    is_one: bool,
-    answer: &'r Tally<'a>,
-) -> Result<(), AllocError>
-    ensures { OnOk result (map tally_at answers.new.items ≡ map tally_at answers.old.items
-        ++ (if is_one then tally_of answer.now ∷ [] else [])) }
-{
-    if is_one {
-        answers.push(answer)?;
-    }
-    Ok(())
 }
 
 // Finds the answers with another proper one, and returns the proper ones.
@@ -148,24 +110,26 @@ fn compare<'r, 'a>(
     let mut proper = Vec::new(alloc);
     for answer in answers {
         let other = other_proper(&propers, shared, answer);
-        push_if(&mut proper, other.is_none(), answer)?;
-        push_finding(findings, shared, answer, other)?;
+        push_compared(findings, &mut proper, shared, answer, other)?;
     }
     Ok(proper)
 }
 
-fn push_finding<'r, 'a>(
+fn push_compared<'r, 'a>(
     findings: &mut Vec<ContactFinding<'r, 'a>>,
+    proper: &mut Vec<&'r Tally<'a>>,
     shared: Shared,
     answer: &'r Tally<'a>,
-    proper: Option<&'r Tally<'a>>,
+    other: Option<&'r Tally<'a>>,
 ) -> Result<(), AllocError>
-    ensures { OnOk result (map finding_view findings.new.items ≡ map finding_view findings.old.items
-        ++ option_to_list (option_map (finding_by shared (tally_of answer.now))
-        (option_map tally_at proper.entry))) }
+    ensures findings { OnOk result (map finding_view findings.new.items ≡ map finding_view findings.old.items
+        ++ option_to_list (option_map (finding_by shared (tally_of answer.now)) (option_map tally_at other.entry))) }
+    ensures proper { OnOk result (map tally_at proper.new.items ≡ map tally_at proper.old.items
+        ++ (if is_none other.entry then tally_of answer.now ∷ [] else [])) }
 {
-    if let Some(proper) = proper {
-        findings.push(ContactFinding::Shares(shared, answer, proper))?;
+    match other {
+        Some(other) => findings.push(ContactFinding::Shares(shared, answer, other))?,
+        None => proper.push(answer)?,
     }
     Ok(())
 }

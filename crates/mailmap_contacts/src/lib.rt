@@ -3,7 +3,7 @@
 
 pub mod answers;
 pub mod comparisons;
-pub mod counter;
 pub mod folded;
-pub mod occurrences;
 pub mod proper;
+
+pub use contact_counter::{counter, occurrences};

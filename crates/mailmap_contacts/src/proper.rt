@@ -12,7 +12,7 @@ ghost use Rattle.mailmap_contacts.specs.declared.folded.Folded.{Folded as TheKey
 
 use crate::answers::Tally;
 use crate::folded::Folded;
-use crate::occurrences::Occurrences;
+use contact_counter::occurrences::Occurrences;
 use std::alloc::{AllocError, Global};
 use std::collections::BTreeMap;
 

@@ -1,11 +1,11 @@
 //! The dumps, one line per item.
 
-use crate::shown::Hex;
 use anyhow::{Context, Result};
 use bstr::ByteSlice;
 use gix_mailmap::actor::SignatureRef;
 use gix_mailmap::{Entry, Snapshot, parse};
 use std::alloc::{AllocError, Global};
+use std::fmt;
 
 /// Dumps the entry or the fault of each line of the files.
 pub fn items(out: &mut String, files: &[Vec<u8>]) -> Result<(), AllocError> {
@@ -77,5 +77,24 @@ fn text(alloc: Global, field: Option<&[u8]>) -> Result<Vec<u8>> {
     match field.context("a name and an email are wanted")? {
         b"." => Ok(Vec::new(alloc)),
         digits => Ok(hex::decode(alloc, digits)?),
+    }
+}
+
+// `-` for a missing text, `.` for an empty one, and else two digits for each byte.
+#[derive(Clone, Copy)]
+struct Hex<'a>(Option<&'a [u8]>);
+
+impl fmt::Display for Hex<'_> {
+    fn fmt<W: fmt::Write>(&self, f: &mut fmt::Formatter<W>) -> fmt::Result {
+        let Some(text) = self.0 else {
+            return f.write_str("-");
+        };
+        if text.is_empty() {
+            return f.write_str(".");
+        }
+        for byte in text {
+            write!(f, "{byte:02x}")?;
+        }
+        Ok(())
     }
 }

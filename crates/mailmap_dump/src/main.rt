@@ -2,7 +2,6 @@
 #![tactic(auto)]
 
 mod dump;
-mod shown;
 
 use anyhow::{Context, Result, bail};
 use gix_mailmap::{Snapshot, parse_ignore_errors};
@@ -31,18 +30,14 @@ fn main(rt: HostRuntime) -> Result<()> {
 fn run(rt: &HostRuntime, mode: &str, paths: &[String]) -> Result<()> {
     let files = read_files(rt, paths)?;
     let mut out = String::new(rt.alloc());
-    put_dump(rt, mode, &files, &mut out)?;
-    print!(rt; "{out}")?;
-    Ok(())
-}
-
-fn put_dump(rt: &HostRuntime, mode: &str, files: &[Vec<u8>], out: &mut String) -> Result<()> {
     match mode {
-        "parse" => Ok(dump::items(out, files)?),
-        "entries" => Ok(dump::entries(out, &merged(rt.alloc(), files)?)?),
-        "resolve" => resolve(rt, files, out),
+        "parse" => dump::items(&mut out, &files)?,
+        "entries" => dump::entries(&mut out, &merged(rt.alloc(), &files)?)?,
+        "resolve" => resolve(rt, &files, &mut out)?,
         _ => bail!("unknown mode {mode}"),
     }
+    print!(rt; "{out}")?;
+    Ok(())
 }
 
 // Dumps the answers for the names and emails on standard input.

@@ -20,12 +20,11 @@ same_value h g a (email, Some name) =
     λ i. mapping_with (unwrap_or (a.lasts email name i) no_fields) ((by_name h ∙ ap option_flatten (a.names email name) ∙ sym (by_name g)) i) (unwrap_or (a.spellings email i) [])
 
 pub same_normal : (h g n : List Mapping) → Alike h g → IsNormal h n → IsNormal g n
-same_normal h g n a d =
-    record {
-      ascending = d.ascending;
-      keys = λ k. d.keys k ∙ a.keys k;
-      values = All-weaker (λ e. e ≡ value h (key e)) (λ e. e ≡ value g (key e)) (λ e is. is ∙ same_value h g a (key e)) n d.values;
-    }
+same_normal h g n a d = record {
+  ascending = d.ascending;
+  keys = λ k. d.keys k ∙ a.keys k;
+  values = All-weaker (λ e. e ≡ value h (key e)) (λ e. e ≡ value g (key e)) (λ e is. is ∙ same_value h g a (key e)) n d.values;
+}
 
 pub same_scan : (h g : List Mapping) (name email : Text) → Alike h g → answer_of h name email ≡ answer_of g name email
 same_scan h g name email a =
@@ -35,14 +34,13 @@ pub alike_itself : (h : List Mapping) → Alike h h
 alike_itself h = record { keys = λ k. refl; spellings = λ e. refl; given = λ e. refl; lasts = λ e n. refl; names = λ e n. refl }
 
 pub alike_back : (h g : List Mapping) → Alike h g → Alike g h
-alike_back h g a =
-    record {
-      keys = λ k. sym (a.keys k);
-      spellings = λ e. sym (a.spellings e);
-      given = λ e. sym (a.given e);
-      lasts = λ e n. sym (a.lasts e n);
-      names = λ e n. sym (a.names e n);
-    }
+alike_back h g a = record {
+  keys = λ k. sym (a.keys k);
+  spellings = λ e. sym (a.spellings e);
+  given = λ e. sym (a.given e);
+  lasts = λ e n. sym (a.lasts e n);
+  names = λ e n. sym (a.names e n);
+}
 
 -- ---- alike parts make alike wholes
 
@@ -71,33 +69,30 @@ pub key_parts : (k : Key) (xs ys : List Mapping) → has_key (accepted (xs ++ ys
 key_parts k xs ys = ap (λ l. has_key l k) (filter-append is_accepted xs ys) ∙ ap (list_any _) (map-append key (accepted xs) (accepted ys)) ∙ list_any-append _ (map key (accepted xs)) _
 
 pub alike_joined : (a b a' b' : List Mapping) → Alike a a' → Alike b b' → Alike (a ++ b) (a' ++ b')
-alike_joined a b a' b' p q =
-    record {
-      keys = λ k. joined (λ l. has_key (accepted l) k) (λ x y. x || y) (key_parts k) a b a' b' (p.keys k) (q.keys k);
-      spellings = λ e. joined (λ l. spelling l e) option_or (first_parts (λ x. x.old_email) _) a b a' b' (p.spellings e) (q.spellings e);
-      given = λ e. λ i. record {
-        name = joined (λ l. (given_fields l e).name) (λ x y. option_or y x) (given_parts (λ x. x.new_name) _) a b a' b' (ap (λ f. f.name) (p.given e)) (ap (λ f. f.name) (q.given e)) i;
-        email = joined (λ l. (given_fields l e).email) (λ x y. option_or y x) (given_parts (λ x. x.new_email) _) a b a' b' (ap (λ f. f.email) (p.given e)) (ap (λ f. f.email) (q.given e)) i;
-      };
-      lasts = λ e n. joined (λ l. last_fields l (e, Some n)) (λ x y. option_or y x) (last_parts new_fields _) a b a' b' (p.lasts e n) (q.lasts e n);
-      names = λ e n. joined (λ l. first_name l (e, Some n)) option_or (first_parts (λ x. x.old_name) _) a b a' b' (p.names e n) (q.names e n);
-    }
+alike_joined a b a' b' p q = record {
+  keys = λ k. joined (λ l. has_key (accepted l) k) (λ x y. x || y) (key_parts k) a b a' b' (p.keys k) (q.keys k);
+  spellings = λ e. joined (λ l. spelling l e) option_or (first_parts (λ x. x.old_email) _) a b a' b' (p.spellings e) (q.spellings e);
+  given = λ e. λ i. record {
+    name = joined (λ l. (given_fields l e).name) (λ x y. option_or y x) (given_parts (λ x. x.new_name) _) a b a' b' (ap (λ f. f.name) (p.given e)) (ap (λ f. f.name) (q.given e)) i;
+    email = joined (λ l. (given_fields l e).email) (λ x y. option_or y x) (given_parts (λ x. x.new_email) _) a b a' b' (ap (λ f. f.email) (p.given e)) (ap (λ f. f.email) (q.given e)) i;
+  };
+  lasts = λ e n. joined (λ l. last_fields l (e, Some n)) (λ x y. option_or y x) (last_parts new_fields _) a b a' b' (p.lasts e n) (q.lasts e n);
+  names = λ e n. joined (λ l. first_name l (e, Some n)) option_or (first_parts (λ x. x.old_name) _) a b a' b' (p.names e n) (q.names e n);
+}
 
 -- ---- only the accepted entries count
 
 -- lists with the same entries for each email and for each key are alike
 pub alike_picked : (h g : List Mapping) → ((k : Key) → has_key (accepted h) k ≡ has_key (accepted g) k) → ((email : Text) → of_email h email ≡ of_email g email) → ((k : Key) → of_key h k ≡ of_key g k) → Alike h g
-alike_picked h g keys mailed keyed =
-    record {
-      keys = keys;
-      spellings = λ email. ap (λ l. option_map (λ e. e.old_email) (first l)) (mailed email);
-      given = λ email i. record { name = last_given (λ e. e.new_name) (keyed (email, None) i); email = last_given (λ e. e.new_email) (keyed (email, None) i) };
-      lasts = λ email name. ap (λ l. option_map new_fields (last l)) (keyed (email, Some name));
-      names = λ email name. ap (λ l. option_map (λ e. e.old_name) (first l)) (keyed (email, Some name));
-    }
+alike_picked h g keys mailed keyed = record {
+  keys = keys;
+  spellings = λ email. ap (λ l. option_map (λ e. e.old_email) (first l)) (mailed email);
+  given = λ email i. record { name = last_given (λ e. e.new_name) (keyed (email, None) i); email = last_given (λ e. e.new_email) (keyed (email, None) i) };
+  lasts = λ email name. ap (λ l. option_map new_fields (last l)) (keyed (email, Some name));
+  names = λ email name. ap (λ l. option_map (λ e. e.old_name) (first l)) (keyed (email, Some name));
+}
 
 pub alike_accepted : (h g : List Mapping) → accepted h ≡ accepted g → Alike h g
-alike_accepted h g same =
-    alike_picked h g (λ k. ap (λ l. has_key l k) same)
+alike_accepted h g same = alike_picked h g (λ k. ap (λ l. has_key l k) same)
     (λ email. ap (filter (λ e. eq_by_cmp text_cmp email (folded e.old_email))) same)
     (λ k. ap (filter (λ e. eq_by_cmp key_cmp k (key e))) same)

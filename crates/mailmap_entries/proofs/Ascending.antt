@@ -31,10 +31,8 @@ module _ {K : Type 0} {R : K → K → Ordering} (o : IsTotalOrder R) (exact : (
 
   found_key : (p : K → Bool) (ks : List K) → list_any p ks ≡ true → (k : K) × (p k ≡ true) × (has ks k ≡ true)
   found_key p [] e = absurd (true≢false (sym e))
-  found_key p (k ∷ ks) e = ⊎_elim
-      (λ passes. (k, passes, has_itself k ks))
-      (λ fails. let w = found_key p ks (rw fails at e) in (w.0, w.1, or_right _ _ w.2))
-      (cases_Bool (p k))
+  found_key p (k ∷ ks) e = ⊎_elim (λ passes. (k, passes, has_itself k ks))
+      (λ fails. let w = found_key p ks (rw fails at e) in (w.0, w.1, or_right _ _ w.2)) (cases_Bool (p k))
 
   pub finds_key : (p : K → Bool) (k : K) (ks : List K) → p k ≡ true → has ks k ≡ true → list_any p ks ≡ true
   finds_key p k [] passes h = absurd (true≢false (sym h))
@@ -42,9 +40,7 @@ module _ {K : Type 0} {R : K → K → Ordering} (o : IsTotalOrder R) (exact : (
 
   -- a predicate finds a key in both lists, or in neither
   pub same_any : (p : K → Bool) (ks js : List K) → ((k : K) → has ks k ≡ has js k) → list_any p ks ≡ list_any p js
-  same_any p ks js h =
-      both_ways _ _
-      (λ e. let w = found_key p ks e in finds_key p w.0 js w.1 (sym (h w.0) ∙ w.2))
+  same_any p ks js h = both_ways _ _ (λ e. let w = found_key p ks e in finds_key p w.0 js w.1 (sym (h w.0) ∙ w.2))
       (λ e. let w = found_key p js e in finds_key p w.0 ks w.1 (h w.0 ∙ w.2))
 
   -- what holds for each key of a list

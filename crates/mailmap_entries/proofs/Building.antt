@@ -1,5 +1,5 @@
 -- What merges build, and what the merged entries can be replaced by.
-use Rattle.std.proofs.Common.{arith, ◌≡◌, ◌≢◌, ◌||◌, Bool, true, true≢false, List, [], ◌∷◌, ◌++◌, Option, Some, None, IsSome, if◌then◌else◌, unwrap_or, option_map, append-nil, refl, sym, ap, subst, ◌∙◌}
+use Rattle.std.proofs.Common.{arith, ◌≡◌, ◌≢◌, ◌||◌, Bool, true, false, true≢false, List, [], ◌∷◌, ◌++◌, Option, Some, None, IsSome, if◌then◌else◌, unwrap_or, option_map, append-nil, refl, sym, ap, subst, ◌∙◌}
 use Rattle.std.specs.Prelude.{◌↔◌}
 use Rattle.std.proofs.lemmas.Bool.{false_from_ne_true}
 use Rattle.std.specs.Cmp.Lexicographic.{nat_list_cmp_total}
@@ -30,8 +30,7 @@ pub accepted_twice : (xs : List Mapping) → accepted (accepted xs) ≡ accepted
 accepted_twice xs = filter_all is_accepted (accepted xs) (accepted_good xs)
 
 pub normal_accepted : (a xs n : List Mapping) → IsNormal (a ++ accepted xs) n → IsNormal (a ++ xs) n
-normal_accepted a xs n =
-    same_normal (a ++ accepted xs) (a ++ xs) n (alike_accepted (a ++ accepted xs) (a ++ xs)
+normal_accepted a xs n = same_normal (a ++ accepted xs) (a ++ xs) n (alike_accepted (a ++ accepted xs) (a ++ xs)
     (filter-append is_accepted a (accepted xs) ∙ ap (λ l. accepted a ++ l) (accepted_twice xs) ∙ sym (filter-append is_accepted a xs)))
 
 -- if no new entry is accepted, nothing changes
@@ -45,12 +44,11 @@ pub normal_none : IsNormal [] []
 normal_none = subst (IsNormal []) (normal_nothing [] (normal []) refl (is_normal [])) (is_normal [])
 
 pub is_merged : (old added new : List Mapping) → IsNormal old old → IsNormal (old ++ added) new → IsMerged old added new
-is_merged old added new own d =
-    record {
-      normal = d;
-      history = λ h is. normal_then h old added new is d;
-      unchanged = λ none. normal_unique (old ++ added) new old d (normal_unchanged old added none own);
-    }
+is_merged old added new own d = record {
+  normal = d;
+  history = λ h is. normal_then h old added new is d;
+  unchanged = λ none. normal_unique (old ++ added) new old d (normal_unchanged old added none own);
+}
 
 pub built_normal : (h n : List Mapping) → IsBuilt h n → IsNormal h n
 built_normal _ _ nothing = normal_none
@@ -74,17 +72,16 @@ option_or_itself o = grind arith
 
 -- a list followed by itself is alike the list
 pub alike_repeated : (h : List Mapping) → Alike (h ++ h) h
-alike_repeated h =
-    record {
-      keys = λ k. key_parts k h h ∙ or_itself (has_key (accepted h) k);
-      spellings = λ email. first_parts (λ e. e.old_email) _ h h ∙ option_or_itself (spelling h email);
-      given = λ email. λ i. record {
-        name = (given_parts (λ e. e.new_name) _ h h ∙ option_or_itself (given_fields h email).name) i;
-        email = (given_parts (λ e. e.new_email) _ h h ∙ option_or_itself (given_fields h email).email) i;
-      };
-      lasts = λ email name. last_parts new_fields _ h h ∙ option_or_itself (last_fields h (email, Some name));
-      names = λ email name. first_parts (λ e. e.old_name) _ h h ∙ option_or_itself (first_name h (email, Some name));
-    }
+alike_repeated h = record {
+  keys = λ k. key_parts k h h ∙ or_itself (has_key (accepted h) k);
+  spellings = λ email. first_parts (λ e. e.old_email) _ h h ∙ option_or_itself (spelling h email);
+  given = λ email. λ i. record {
+    name = (given_parts (λ e. e.new_name) _ h h ∙ option_or_itself (given_fields h email).name) i;
+    email = (given_parts (λ e. e.new_email) _ h h ∙ option_or_itself (given_fields h email).email) i;
+  };
+  lasts = λ email name. last_parts new_fields _ h h ∙ option_or_itself (last_fields h (email, Some name));
+  names = λ email name. first_parts (λ e. e.old_name) _ h h ∙ option_or_itself (first_name h (email, Some name));
+}
 
 pub normal_repeated : (h n : List Mapping) → IsNormal h n → IsNormal (h ++ n) n
 normal_repeated h n d =
@@ -139,3 +136,6 @@ pub one_resolved : (h : List Mapping) (name other_name email other_email : Text)
 one_resolved h name other_name email other_email names emails some =
     one_of (unwrap_or (last_fields h (folded email, Some (folded name))) (given_fields h (folded email))) (spelling h (folded email)) email other_email some
     ∙ (λ i. unwrap_or (unwrap_or (fields_with_spelling other_email (unwrap_or (last_fields h (emails i, Some (names i))) (given_fields h (emails i))) (spelling h (emails i))) no_fields).email other_email)
+
+pub other_text : (a b : Text) → (b ≡ a → ⊥) → eq_by_cmp text_cmp a b ≡ false
+other_text a b other = false_from_ne_true (eq_by_cmp text_cmp a b) (λ same. other (sym ((same_text a b).0 same)))

@@ -17,12 +17,11 @@ optional_decides (Some x) None = (λ e. absurd (true≢false (sym e)), λ e. cc)
 optional_decides (Some x) (Some y) = (λ e. ap (λ t. Some t) ((bytes_decides x y).0 e), λ e. (bytes_decides x y).1 (cc))
 
 own_entry : (a : Mapping) → same_entry a a ≡ true
-own_entry a =
-    ap₂ (λ x y. x && y) ((optional_decides a.new_name a.new_name).1 refl)
+own_entry a = ap₂ (λ x y. x && y) ((optional_decides a.new_name a.new_name).1 refl)
     (ap₂ (λ x y. x && y) ((optional_decides a.new_email a.new_email).1 refl)
     (ap₂ (λ x y. x && y) ((optional_decides a.old_name a.old_name).1 refl) ((bytes_decides a.old_email a.old_email).1 refl)))
 
-entry_decides : (a b : Mapping) → Decides (same_entry a b) (a ≡ b)
+pub entry_decides : (a b : Mapping) → Decides (same_entry a b) (a ≡ b)
 entry_decides a b =
     let p = same_optional a.new_name b.new_name in
     let q = same_optional a.new_email b.new_email in

@@ -14,12 +14,9 @@ less-smaller [] (y ∷ ys) e = tt
 less-smaller (x ∷ xs) [] e = absurd (cc)
 less-smaller (x ∷ xs) (y ∷ ys) e =
     let rest = λ (r : Ordering) (is : r ≡ nat_cmp x y). ap (λ o. ordering_then o (slice_cmp nat_cmp xs ys)) is ∙ e in
-    ⊎_elim inl
-    (λ le. ⊎_elim (λ same. inr (same, less-smaller xs ys (rest Equal (nat_cmp_is x y Equal same))))
-    (λ other.
+    ⊎_elim inl (λ le. ⊎_elim (λ same. inr (same, less-smaller xs ys (rest Equal (nat_cmp_is x y Equal same)))) (λ other.
     let above : y < x = omega arith in
-    let wrong : Greater ≡ Less = rest Greater (nat_cmp_is x y Greater above) in absurd (cc))
-    (cases_eq x y))
+    let wrong : Greater ≡ Less = rest Greater (nat_cmp_is x y Greater above) in absurd (cc)) (cases_eq x y))
     (cases_lt x y)
 
 -- and the other way round

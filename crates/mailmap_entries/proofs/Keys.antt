@@ -38,8 +38,7 @@ module _ {K : Type 0} {R : K → K → Ordering} (total : IsTotalOrder R) (exact
   exactly_tied x y = (tells_apart exact x y, λ e. rw (← e) (ap is_eq (tied_itself total x)))
 
 pub entries_total : IsTotalOrder mapping_cmp
-entries_total =
-    then_total (on_total (λ (m : Mapping). m.new_name) (options_total nat_list_cmp_total))
+entries_total = then_total (on_total (λ (m : Mapping). m.new_name) (options_total nat_list_cmp_total))
     (then_total (on_total (λ (m : Mapping). m.new_email) (options_total nat_list_cmp_total))
     (then_total (on_total (λ (m : Mapping). m.old_name) (options_total nat_list_cmp_total)) (on_total (λ (m : Mapping). m.old_email) nat_list_cmp_total)))
 

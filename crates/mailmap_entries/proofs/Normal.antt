@@ -46,8 +46,7 @@ accepted_value : (h : List Mapping) (k : Key) → is_some (first (of_key h k)) �
 accepted_value h (email, None) e =
     let l = of_key h (email, None) in
     (λ i. some_given (λ e. e.new_name) l i || some_given (λ e. e.new_email) l i)
-    ∙ any_either (λ e. is_some e.new_name) (λ e. is_some e.new_email) l
-    ∙ some_accepted l (all_accepted _ h) e
+    ∙ any_either (λ e. is_some e.new_name) (λ e. is_some e.new_email) l ∙ some_accepted l (all_accepted _ h) e
 accepted_value h (email, Some name) e = last_accepted (of_key h (email, Some name)) (all_accepted _ h) e
 
 pub known : (h : List Mapping) (k : Key) → has_key (accepted h) k ≡ is_some (first (of_key h k))
@@ -65,9 +64,7 @@ module _ (h n : List Mapping) (d : IsNormal h n) where
       filter_all is_accepted n (all_apply _ _ _ (λ e is good. ap is_accepted is ∙ good) n values accepted_values)
 
   pub of_key_normal : (k : Key) → of_key n k ≡ only (value h k) (of_key h k)
-  of_key_normal k =
-      ap (filter _) accepted_self
-      ∙ one_at keys_total keys_exact key (value h) k n d.ascending values
+  of_key_normal k = ap (filter _) accepted_self ∙ one_at keys_total keys_exact key (value h) k n d.ascending values
       ∙ ap (λ b. cond b (value h k ∷ []) []) (d.keys k ∙ known h k)
 
   pub old_email_is : (k : Key) → (value h k).old_email ≡ unwrap_or (spelling h k.0) []
@@ -83,22 +80,20 @@ module _ (h n : List Mapping) (d : IsNormal h n) where
       sym (list_any-map p key n) ∙ same_any keys_total keys_exact p (map key n) (map key (accepted h)) d.keys ∙ list_any-map p key (accepted h)
       ∙ first_found (λ e. p (key e)) (accepted h) ∙ is_some-option_map (λ e. e.old_email) (first (of_email h email)) in
       sym (ap (λ l. option_map (λ e. e.old_email) (first (filter (λ e. p (key e)) l))) accepted_self
-      ∙ first_alike (λ e. e.old_email) (λ e. p (key e)) s n all_s
-      ∙ ap (λ b. cond b (Some s) None) any
+      ∙ first_alike (λ e. e.old_email) (λ e. p (key e)) s n all_s ∙ ap (λ b. cond b (Some s) None) any
       ∙ some_again (spelling h email) [])
 
   pub alike_normal : Alike h n
-  alike_normal =
-      record {
-        keys = λ k. sym (ap (λ l. has_key l k) accepted_self ∙ d.keys k);
-        spellings = same_spelling;
-        given = λ email i. record {
-          name = (given_stands (λ e. e.new_name) (value h (email, None)) (of_key h (email, None)) refl ∙ ap (last_given (λ e. e.new_name)) (sym (of_key_normal (email, None)))) i;
-          email = (given_stands (λ e. e.new_email) (value h (email, None)) (of_key h (email, None)) refl ∙ ap (last_given (λ e. e.new_email)) (sym (of_key_normal (email, None)))) i;
-        };
-        lasts = λ email name. last_stands (value h (email, Some name)) (of_key h (email, Some name)) refl ∙ ap (λ l. option_map new_fields (last l)) (sym (of_key_normal (email, Some name)));
-        names = λ email name. name_stands (value h (email, Some name)) (of_key h (email, Some name)) refl ∙ ap (λ l. option_map (λ e. e.old_name) (first l)) (sym (of_key_normal (email, Some name)));
-      }
+  alike_normal = record {
+    keys = λ k. sym (ap (λ l. has_key l k) accepted_self ∙ d.keys k);
+    spellings = same_spelling;
+    given = λ email i. record {
+      name = (given_stands (λ e. e.new_name) (value h (email, None)) (of_key h (email, None)) refl ∙ ap (last_given (λ e. e.new_name)) (sym (of_key_normal (email, None)))) i;
+      email = (given_stands (λ e. e.new_email) (value h (email, None)) (of_key h (email, None)) refl ∙ ap (last_given (λ e. e.new_email)) (sym (of_key_normal (email, None)))) i;
+    };
+    lasts = λ email name. last_stands (value h (email, Some name)) (of_key h (email, Some name)) refl ∙ ap (λ l. option_map new_fields (last l)) (sym (of_key_normal (email, Some name)));
+    names = λ email name. name_stands (value h (email, Some name)) (of_key h (email, Some name)) refl ∙ ap (λ l. option_map (λ e. e.old_name) (first l)) (sym (of_key_normal (email, Some name)));
+  }
 
 pub normal_self : (h n : List Mapping) → IsNormal h n → IsNormal n n
 normal_self h n d = same_normal h n n (alike_normal h n d) d

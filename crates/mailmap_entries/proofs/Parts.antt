@@ -71,10 +71,8 @@ is_some-option_map f o = grind arith
 
 pub first_passes : {X : Type 0} (p : X → Bool) (xs : List X) → list_any p xs ≡ true → (x : X) × (first (filter p xs) ≡ Some x) × (p x ≡ true)
 first_passes p [] e = cc
-first_passes p (x ∷ xs) e = ⊎_elim
-    (λ yes. (x, rw yes refl, yes))
-    (λ no. let w = first_passes p xs (rw no at e) in (w.0, rw no w.1, w.2))
-    (cases_Bool (p x))
+first_passes p (x ∷ xs) e = ⊎_elim (λ yes. (x, rw yes refl, yes))
+    (λ no. let w = first_passes p xs (rw no at e) in (w.0, rw no w.1, w.2)) (cases_Bool (p x))
 
 pub map_back : {X Y : Type 0} (f : X → Y) (g : Y → X) (xs : List X) → AllByRecursion (λ x. g (f x) ≡ x) xs → map g (map f xs) ≡ xs
 map_back f g [] a = refl
@@ -111,3 +109,16 @@ all_weaker (x ∷ xs) f a = (f x a.0, all_weaker xs f a.1)
 pub all_mapped : {X Y : Type 0} (f : X → Y) (P : Y → Type 0) (xs : List X) → AllByRecursion (λ x. P (f x)) xs → AllByRecursion P (map f xs)
 all_mapped f P [] a = tt
 all_mapped f P (x ∷ xs) a = (a.0, all_mapped f P xs a.1)
+
+pub filter-map : {X Y : Type 0} (p : Y → Bool) (f : X → Y) (xs : List X) → filter p (map f xs) ≡ map f (filter (λ x. p (f x)) xs)
+filter-map p f [] = refl
+filter-map p f (x ∷ xs) = grind (arith, filter-map p f xs)
+
+-- functions and predicates that agree on each element
+pub map_alike : {X Y : Type 0} (f g : X → Y) (xs : List X) → AllByRecursion (λ x. f x ≡ g x) xs → map f xs ≡ map g xs
+map_alike f g [] a = refl
+map_alike f g (x ∷ xs) a = λ i. a.0 i ∷ map_alike f g xs a.1 i
+
+pub filter_alike : {X : Type 0} (p q : X → Bool) (xs : List X) → AllByRecursion (λ x. p x ≡ q x) xs → filter p xs ≡ filter q xs
+filter_alike p q [] a = refl
+filter_alike p q (x ∷ xs) a = λ i. cond (a.0 i) (x ∷ filter_alike p q xs a.1 i) (filter_alike p q xs a.1 i)

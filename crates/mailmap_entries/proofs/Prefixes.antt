@@ -1,8 +1,8 @@
 -- Texts whose prefixes differ are in the order of their prefixes.
-use Rattle.std.proofs.Common.{◌≡◌, ◌≢◌, ◌<◌, ◌≤◌, ◌+◌, ◌-◌, ◌*◌, ◌^◌, ℕ, zero, suc, [], ◌∷◌, drop, take, map, length, get_or, Ordering, Less, Equal, Greater, refl, sym, ap, ◌∙◌, arith}
+use Rattle.std.proofs.Common.{◌≡◌, ◌≢◌, ◌<◌, ◌≤◌, ◌+◌, ◌-◌, ◌*◌, ◌^◌, ℕ, zero, suc, [], ◌∷◌, ◌++◌, drop, take, map, length, replicate, get_or, Ordering, Less, Equal, Greater, refl, ap, ◌∙◌, arith}
 use Rattle.std.specs.Cmp.Lexicographic.{nat_list_cmp_total}
-use Rattle.std.specs.Ordering.{nat_cmp, ordering_then, ordering_reverse}
-use Rattle.std.proofs.Math.Nat.{pow-succ', suc-mul, add-mul, mul_assoc, mul-le-mul_right, le-mul_of_pos_right}
+use Rattle.std.specs.Ordering.{nat_cmp, ordering_reverse}
+use Rattle.std.proofs.Math.Nat.{pow-succ', suc-mul, mul-le-mul_right}
 use Rattle.std.proofs.lemmas.Cmp.{ranked}
 use Rattle.std.proofs.lemmas.Bool.Decides.{nat_tests}
 use Rattle.std.specs.Char.{to_ascii_lowercase}
@@ -46,9 +46,6 @@ prefix_alike (suc n) (x ∷ xs) [] ps qs lx ly e = absurd (omega arith)
 prefix_alike (suc n) (x ∷ xs) (y ∷ ys) ps qs lx ly e =
     grind (arith, prefix_alike n xs ys ps.1 qs.1 (omega arith) (omega arith), outweighed n x y xs ys ps.1, outweighed n y x ys xs qs.1)
 
-pub then_settled : (r o : Ordering) → r ≢ Equal → ordering_then r o ≡ r
-then_settled r o other = grind arith
-
 -- ---- the number, digit by digit
 
 none_left : (n i : ℕ) → key_prefix n (drop i []) ≡ 0
@@ -62,28 +59,6 @@ first_digit (suc n) zero [] = omega arith
 first_digit n (suc i) [] = omega (arith, none_left (suc n) (suc i), none_left n (suc (suc i)))
 first_digit n zero (x ∷ xs) = refl
 first_digit n (suc i) (x ∷ xs) = first_digit n i xs
-
-digit : (number n i : ℕ) (xs : Text) → (number * 256 + get_or xs i 0) * 256 ^ n + key_prefix n (drop (suc i) xs) ≡ number * 256 ^ suc n + key_prefix (suc n) (drop i xs)
-digit number n i xs =
-    let whole : number * 256 ^ suc n ≡ number * 256 * 256 ^ n = ap (λ k. number * k) (pow-succ' 256 n) ∙ sym (mul_assoc number 256 (256 ^ n)) in
-    omega (arith, whole, add-mul (number * 256) (get_or xs i 0) (256 ^ n), first_digit n i xs)
-
-pub prefix_more : (number i : ℕ) (xs : Text) → i < 16 → number * 256 ^ (16 - i) + key_prefix (16 - i) (drop i xs) ≡ key_prefix 16 xs
-    → (number * 256 + get_or xs i 0) * 256 ^ (16 - (i + 1)) + key_prefix (16 - (i + 1)) (drop (i + 1) xs) ≡ key_prefix 16 xs
-prefix_more number i xs lt e =
-    let next : i + 1 ≡ suc i = omega arith in
-    let before : suc (16 - suc i) ≡ 16 - i = omega (arith, lt) in
-    ap (λ k. (number * 256 + get_or xs i 0) * 256 ^ (16 - k) + key_prefix (16 - k) (drop k xs)) next ∙ digit number (16 - suc i) i xs ∙ ap (λ k. number * 256 ^ k + key_prefix k (drop i xs)) before ∙ e
-
-pub prefix_fits : (number i : ℕ) (xs : Text) → AreBytes xs → i < 16 → number * 256 ^ (16 - i) + key_prefix (16 - i) (drop i xs) ≡ key_prefix 16 xs → number * 256 + get_or xs i 0 < 256 ^ 16
-prefix_fits number i xs all lt e =
-    let next = number * 256 + get_or xs i 0 in
-    omega (arith, le-mul_of_pos_right next (pos (16 - (i + 1))), prefix_more number i xs lt e, prefix_below 16 xs all)
-
-pub prefix_done : (number i : ℕ) (xs : Text) → 16 ≤ i → number * 256 ^ (16 - i) + key_prefix (16 - i) (drop i xs) ≡ key_prefix 16 xs → number ≡ key_prefix 16 xs
-prefix_done number i xs le e =
-    let none : 16 - i ≡ 0 = omega (arith, le) in
-    omega (arith, ap (λ k. number * 256 ^ k + key_prefix k (drop i xs)) none, e)
 
 -- the first sixteen bytes as a big-endian number
 pub number_of : (xs : Text) → from_be_bytes w128 xs ≡ key_prefix 16 xs
@@ -112,6 +87,17 @@ pub prefix_take : (f : ℕ → ℕ) (n : ℕ) (xs : Text) → key_prefix n (map 
 prefix_take f zero xs = refl
 prefix_take f (suc n) [] = refl
 prefix_take f (suc n) (x ∷ xs) = ap (λ k. f x * 256 ^ n + k) (prefix_take f n xs)
+
+-- zeros after a text don't count
+zeros : (n m : ℕ) → key_prefix n (map to_ascii_lowercase (replicate m 0)) ≡ 0
+zeros zero m = refl
+zeros (suc n) zero = refl
+zeros (suc n) (suc m) = omega (arith, zeros n m)
+
+pub prefix_padded : (n m : ℕ) (xs : Text) → key_prefix n (map to_ascii_lowercase (xs ++ replicate m 0)) ≡ key_prefix n (folded xs)
+prefix_padded zero m xs = refl
+prefix_padded (suc n) m [] = zeros (suc n) m
+prefix_padded (suc n) m (x ∷ xs) = ap (λ k. to_ascii_lowercase x * 256 ^ n + k) (prefix_padded n m xs)
 
 folded_below : (x : ℕ) → x < 256 → to_ascii_lowercase x < 256
 folded_below x lt = grind (arith, nat_tests)

@@ -10,7 +10,7 @@ use Rattle.mailmap_entries.proofs.Alike.{Alike, alike_picked}
 use Rattle.mailmap_entries.proofs.Normal.{known}
 use Rattle.mailmap_entries.proofs.Parts.{filter-filter}
 
-both_equal : (a b : Ordering) → is_eq (ordering_then a b) ≡ (is_eq a && is_eq b)
+pub both_equal : (a b : Ordering) → is_eq (ordering_then a b) ≡ (is_eq a && is_eq b)
 both_equal a b = grind arith
 
 -- the entries of a key are those of its email that have its name

@@ -33,11 +33,9 @@ nothing = record { new_name = None; new_email = None; old_name = None; old_email
 
 -- the order of entries: by new name, new email, old name and old email, each byte by byte and a missing one first
 abbrev pub mapping_cmp : Mapping → Mapping → Ordering
-mapping_cmp a b =
-    ordering_then (option_cmp text_cmp a.new_name b.new_name)
+mapping_cmp a b = ordering_then (option_cmp text_cmp a.new_name b.new_name)
     (ordering_then (option_cmp text_cmp a.new_email b.new_email)
-    (ordering_then (option_cmp text_cmp a.old_name b.old_name)
-    (text_cmp a.old_email b.old_email)))
+    (ordering_then (option_cmp text_cmp a.old_name b.old_name) (text_cmp a.old_email b.old_email)))
 
 -- what a hasher gets of a text that may be missing
 abbrev pub text_writes : Option Text → List (List ℕ)

@@ -66,11 +66,10 @@ no_fields = record { name = None; email = None }
 
 -- the last new name and the last new email among an email's entries without an old name, each on its own
 abbrev pub given_fields : List Mapping → Text → Fields
-given_fields h email =
-    record {
-      name = last_given (λ e. e.new_name) (of_key h (email, None));
-      email = last_given (λ e. e.new_email) (of_key h (email, None));
-    }
+given_fields h email = record {
+  name = last_given (λ e. e.new_name) (of_key h (email, None));
+  email = last_given (λ e. e.new_email) (of_key h (email, None));
+}
 
 -- both new fields of the last entry for a key
 abbrev pub last_fields : List Mapping → Key → Option Fields
@@ -88,10 +87,8 @@ mapping_with f name email = record { new_name = f.name; new_email = f.email; old
 -- the one entry that represents all entries of a key
 abbrev pub value : List Mapping → Key → Mapping
 value h (email, None) = mapping_with (given_fields h email) None (unwrap_or (spelling h email) [])
-value h (email, Some name) =
-    mapping_with (unwrap_or (last_fields h (email, Some name)) no_fields)
-    (option_and_then (λ e. e.old_name) (first (of_key h (email, Some name))))
-    (unwrap_or (spelling h email) [])
+value h (email, Some name) = mapping_with (unwrap_or (last_fields h (email, Some name)) no_fields)
+    (option_and_then (λ e. e.old_name) (first (of_key h (email, Some name)))) (unwrap_or (spelling h email) [])
 
 -- n strictly ascends by key, has exactly the keys of the accepted entries of h, and each of its entries is the value of
 -- its key

@@ -13,6 +13,10 @@
 //! | `Proper <proper@x> Commit <commit@x>` | `Proper` | `proper@x` | `Commit` | `commit@x` |
 ghost use Rattle.std.specs.Prelude.{◌≡◌, IsSome};
 
+mod fields;
+
+pub use fields::entry_of;
+
 /// A mapping of names and emails. It borrows its texts: from the buffer that was parsed, from a snapshot that lists it,
 /// or from the caller.
 ///

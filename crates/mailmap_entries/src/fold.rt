@@ -2,7 +2,7 @@
 ghost use Rattle.std.specs.Prelude.{◌≡◌, ◌↔◌, ◌+◌, ◌-◌, ◌<◌, ◌≤◌, ℕ, List, length, slice_get, IfOk, IfErr};
 ghost use Rattle.std.specs.List.Sorted.{IsSearchInRange, IsPartitionPoint};
 ghost use Rattle.std.specs.declared.cmp.Ordering.{Ordering as Answer};
-ghost use Rattle.mailmap_entries.specs.Folding.{folded, text_cmp, IsBelow};
+ghost use Rattle.mailmap_entries.specs.Folding.{folded, text_cmp};
 ghost use Rattle.mailmap_entries.specs.Search.{IsPartitioned, digits};
 
 pub mod prefix;
@@ -16,7 +16,6 @@ use std::marker::Model;
 /// before `B`, and `foo` before `FOO1`. `FooBar` and `foobar` are equal.
 pub fn cmp_ignore_ascii_case(a: &[u8], b: &[u8]) -> Ordering
     ensures value { result ≡ text_cmp (folded a.now) (folded b.now) }
-    ensures less { (result ≡ Ordering.Less) ↔ IsBelow a.now b.now }
     ensures equal { (result ≡ Ordering.Equal) ↔ (folded a.now ≡ folded b.now) }
 {
     // Equal keys mostly have the same spelling, too, and others mostly begin otherwise.
@@ -116,8 +115,6 @@ impl Steps {
     pub fn compare(&mut self, a: &[u8], b: &[u8]) -> Ordering
         requires { self.old < usize.MAX }
         ensures value { result ≡ text_cmp (folded a.now) (folded b.now) }
-        ensures less { (result ≡ Ordering.Less) ↔ IsBelow a.now b.now }
-        ensures equal { (result ≡ Ordering.Equal) ↔ (folded a.now ≡ folded b.now) }
         ensures counted { self.new ≡ self.old + 1 }
     {
         self.count += 1;

@@ -4,7 +4,7 @@ ghost use Rattle.std.specs.Prelude.{◌≡◌, ◌↔◌, true};
 ghost use Rattle.std.specs.Cmp.{IsTotalOrder};
 ghost use Rattle.std.specs.declared.cmp.Ordering.{Ordering};
 ghost use Rattle.mailmap_entries.specs.Entries.{Mapping, mapping_cmp, mapping_of, mapping_writes, nothing};
-ghost use Rattle.mailmap_entries.specs.Folding.{Text, folded, text_cmp};
+ghost use Rattle.mailmap_entries.specs.Folding.{IsBelow, Text, folded, text_cmp};
 ghost use Rattle.mailmap_entries.specs.declared.entry.Entry as the_entry;
 
 use crate::entry::Entry;
@@ -28,8 +28,9 @@ pub fn law_order()
 {}
 
 /// The order without the case of ASCII letters is a total preorder: any two texts can be compared, and they compare as
-/// equal exactly if they differ in nothing but case.
+/// equal exactly if they differ in nothing but case. Else the first bytes that differ decide.
 pub fn law_order_without_case()
     ensures total { IsTotalOrder (λ (a b : Text). text_cmp (folded a) (folded b)) }
+    ensures less { (a b : Text) → (text_cmp (folded a) (folded b) ≡ Ordering.Less) ↔ IsBelow a b }
     ensures level { (a b : Text) → (text_cmp (folded a) (folded b) ≡ Ordering.Equal) ↔ (folded a ≡ folded b) }
 {}

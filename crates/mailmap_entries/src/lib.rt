@@ -6,4 +6,4 @@ pub mod fold;
 pub mod laws;
 pub mod semantics;
 
-pub use entry::Entry;
+pub use entry::{Entry, entry_of};

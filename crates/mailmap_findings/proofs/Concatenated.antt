@@ -1,5 +1,5 @@
 -- The lines of a buffer concatenate to it, and concatenating some of them gives a text with exactly these lines.
-use Rattle.std.proofs.Common.{◌≡◌, ◌≢◌, ◌⊎◌, ℕ, Bool, true, false, if◌then◌else◌, List, [], ◌∷◌, ◌++◌, map, filter, inl, inr, ⊎_elim, refl, ap, ◌∙◌, arith, rules}
+use Rattle.std.proofs.Common.{◌≡◌, ◌≢◌, ◌⊎◌, ℕ, Bool, List, [], ◌∷◌, ◌++◌, map, filter, inl, inr, ⊎_elim, refl, ap, arith, rules}
 use Rattle.std.specs.List.{flat_map}
 use Rattle.std.proofs.lemmas.Bool.{cond-false, cond_both, ne_eqb, eqb-false, eqb-true}
 use Rattle.mailmap_entries.specs.Folding.{Text}
@@ -11,14 +11,10 @@ joined ts = flat_map (λ t. t) ts
 
 -- ---- lines concatenate to their buffer
 
-joined-with_first : (b : ℕ) (ts : List Text) → joined (with_first b ts) ≡ b ∷ joined ts
-joined-with_first b [] = refl
-joined-with_first b (t ∷ ts) = refl
-
 pub joined-whole_lines : (s : Text) → joined (whole_lines s) ≡ s
 unfolding whole_lines
 joined-whole_lines [] = refl
-joined-whole_lines (b ∷ s) = grind (arith, cond_both, joined-with_first, (joined-whole_lines s), (joined-whole_lines s))
+joined-whole_lines (b ∷ s) = grind (arith, cond_both, (joined-whole_lines s), (joined-whole_lines s))
 
 -- ---- when texts are the lines of their concatenation
 
@@ -50,13 +46,13 @@ are_whole (b ∷ s) = grind (arith, cond_both, eqb-true, first_byte, eqb-false, 
 lines-ended : (front rest : Text) → HoldsNo 10 front → whole_lines ((front ++ 10 ∷ []) ++ rest) ≡ (front ++ 10 ∷ []) ∷ whole_lines rest
 unfolding whole_lines
 lines-ended [] rest free = refl
-lines-ended (b ∷ front) rest free = cond-false _ _ _ (ne_eqb b 10 free.0) ∙ ap (with_first b) (lines-ended front rest free.1)
+lines-ended (b ∷ front) rest free = grind (arith, (lines-ended front rest free.1))
 
 lines-open : (t : Text) → HoldsNo 10 t → t ≢ [] → whole_lines t ≡ t ∷ []
 unfolding whole_lines
 lines-open [] free some = absurd (some refl)
 lines-open (b ∷ []) free some = cond-false _ _ _ (ne_eqb b 10 free.0)
-lines-open (b ∷ c ∷ t) free some = cond-false _ _ _ (ne_eqb b 10 free.0) ∙ ap (with_first b) (lines-open (c ∷ t) free.1 (λ e. cc))
+lines-open (b ∷ c ∷ t) free some = grind (arith, (lines-open (c ∷ t) free.1))
 
 lines-nil : whole_lines [] ≡ []
 unfolding whole_lines
@@ -77,11 +73,7 @@ none_left test (l ∷ ls) e = cc
 
 pub some_whole : (test : Line → Bool) (ls : List Line) → AreWhole (texts ls) → AreWhole (texts (filter test ls))
 some_whole test [] are = tt
-some_whole test (l ∷ ls) are =
-    elim (test l) as (λ b. AreWhole (texts (if b then l ∷ filter test ls else filter test ls))) [
-      | true ↦ (⊎_elim (λ w. inl w) (λ w. inr (w.0, none_left test ls w.1)) are.0, some_whole test ls are.1)
-      | false ↦ some_whole test ls are.1
-    ]
+some_whole test (l ∷ ls) are = grind (arith, none_left, (some_whole test ls are.1))
 
 -- a list with a line in it has a text in it
 some_there : (a c : List Line) (l : Line) → texts (a ++ l ∷ c) ≢ []
@@ -90,7 +82,4 @@ some_there (k ∷ a) c l = λ e. cc
 
 pub without_one : (a c : List Line) (l : Line) → AreWhole (texts (a ++ l ∷ c)) → AreWhole (texts (a ++ c))
 without_one [] c l are = are.1
-without_one (k ∷ a) c l are = (
-  ⊎_elim (λ w. inl w) (λ w. absurd (some_there a c l w.1)) are.0,
-  without_one a c l are.1,
-)
+without_one (k ∷ a) c l are = grind (arith, some_there, (without_one a c l are.1))

@@ -1,20 +1,26 @@
--- Parsing lines with their line feeds has the same result as parsing the pieces between line feeds.
-use Rattle.std.proofs.Common.{◌≡◌, ◌+◌, ◌==◌, ℕ, cond, Option, Some, None, option_to_list, Ok, Err, List, [], ◌∷◌, ◌++◌, inl, inr, ⊎_elim, append-nil, refl, ap, ◌∙◌, arith}
-use Rattle.std.specs.List.{cons_option, flat_map}
+-- Lines with their line feeds and the pieces between line feeds are parsed alike; and two readings of a line: strictly
+-- and leniently, and under two line numbers.
+use Rattle.std.proofs.Common.{◌≡◌, ◌⊎◌, ◌+◌, ◌==◌, ℕ, cond, Option, Some, None, option_to_list, Ok, List, [], ◌∷◌, ◌++◌, append-nil, refl, ap, arith, true, map, IfSome, subst, sym}
+use Rattle.std.specs.List.{flat_map, All, AllByRecursion, AllZip}
 use Rattle.std.specs.Option.{option_and_then, option_map}
 use Rattle.std.specs.Result.{result_ok}
 use Rattle.std.specs.Char.{encode_utf8}
 use Rattle.std.proofs.lemmas.Bool.{eqb-true}
 use Rattle.std.proofs.lemmas.List.{map-append}
-use Rattle.std.proofs.lemmas.List.Elements.{filter_map-append}
+use Rattle.std.proofs.lemmas.List.Elements.{filter_map-append, All-from_recursion}
 use Rattle.mailmap_entries.specs.Folding.{Text}
-use Rattle.mailmap_grammar.specs.Trimming.{trim}
 use Rattle.mailmap_redundancy.specs.declared.located.Position.{Position}
-use Rattle.mailmap_findings.specs.Findings.{ignored, ignored_text, reported_of_reading}
-use Rattle.mailmap_grammar.specs.Lines.{trailing_text, cut, non_empty, Reading, reading_by, line_reading, strict_line_reading, unless_blank, reading, strict_reading, readings_from, pieces, with_first, mappings_of, mappings_in}
+use Rattle.mailmap_findings.specs.Findings.{reported_of_reading}
+use Rattle.mailmap_grammar.specs.Lines.{Reading, reading_by, unless_blank, reading, strict_reading, readings_from, pieces, mappings_of, mappings_in}
 use Rattle.mailmap_grammar.proofs.Trimmed.{trim-white_end}
-use Rattle.mailmap_redundancy.specs.Redundancy.{LocatedMapping, entries}
-use Rattle.mailmap_findings.specs.Positions.{IsPieceOf, Line, entry, located, located_entry, located_from, whole_lines, lines_from, located_lines}
+use Rattle.mailmap_redundancy.specs.Redundancy.{entries, located_of}
+use Rattle.mailmap_findings.specs.Positions.{Line, entry, located, located_from, whole_lines, lines_from, located_lines}
+use Rattle.mailmap_entries.specs.Entries.{Mapping, mapping_of}
+use Rattle.mailmap_entries.specs.Semantics.{is_accepted}
+use Rattle.mailmap_entries.proofs.Parts.{all_map}
+use Rattle.mailmap_redundancy.specs.declared.located.LocatedEntry.{LocatedEntry}
+use Rattle.mailmap_findings.specs.Pruning.{with_number}
+use Rattle.mailmap_findings.proofs.Concatenated.{texts}
 
 -- a line feed at the end changes nothing
 reading_by-feed : (says : ℕ → Text → Reading) (n : ℕ) (z : Text) → reading_by says n (z ++ 10 ∷ []) ≡ reading_by says n z
@@ -22,42 +28,20 @@ unfolding encode_utf8
 reading_by-feed says n [] = ap (unless_blank says n) (trim-white_end 10 [] refl)
 reading_by-feed says n (b ∷ z) = ap (λ t. cond (b == 35) None (unless_blank says n t)) (trim-white_end 10 (b ∷ z) refl)
 
-abbrev ArePiecesOf : List Text → List Text → Type 0
-ArePiecesOf [] [] = Unit {0}
-ArePiecesOf [] (p ∷ ps) = ⊥
-ArePiecesOf (w ∷ ws) [] = ⊥
-ArePiecesOf (w ∷ ws) (p ∷ ps) = IsPieceOf w p × ArePiecesOf ws ps
+-- w is p, with or without a line feed at its end
+abbrev IsPieceOf : Text → Text → Type 0
+IsPieceOf w p = (w ≡ p) ⊎ (w ≡ p ++ 10 ∷ [])
 
-first_byte : (b : ℕ) (ws ps : List Text) → ArePiecesOf ws ps → ArePiecesOf (with_first b ws) (with_first b ps)
-first_byte b [] [] are = (inl refl, tt)
-first_byte b [] (p ∷ ps) are = absurd are
-first_byte b (w ∷ ws) [] are = absurd are
-first_byte b (w ∷ ws) (p ∷ ps) are = (⊎_elim (λ e. inl (ap (λ t. b ∷ t) e)) (λ e. inr (ap (λ t. b ∷ t) e)) are.0, are.1)
+abbrev ArePiecesOf : List Text → List Text → Type 0
+ArePiecesOf = AllZip IsPieceOf
 
 are_pieces : (s : Text) → ArePiecesOf (whole_lines s) (pieces s)
 unfolding whole_lines pieces
 are_pieces [] = tt
-are_pieces (b ∷ s) = grind (arith, eqb-true, first_byte, (are_pieces s))
+are_pieces (b ∷ s) = grind (arith, eqb-true, (are_pieces s))
 
-pub same_reading : (says : ℕ → Text → Reading) (n : ℕ) (w p : Text) → IsPieceOf w p → reading_by says n w ≡ reading_by says n p
-same_reading says n w p is = ⊎_elim (λ e. ap (reading_by says n) e) (λ e. ap (reading_by says n) e ∙ reading_by-feed says n p) is
-
--- the finding about the text is the same, too
-reported_alike : (w p : Text) → ignored w ≡ ignored p → (o : Option Reading) → reported_of_reading w o ≡ reported_of_reading p o
-reported_alike w p is None = refl
-reported_alike w p is (Some (Err f)) = refl
-reported_alike w p is (Some (Ok e)) = ap (λ t. option_map ignored_text (non_empty t)) is
-
-same_ignored : (w p : Text) → IsPieceOf w p → ignored w ≡ ignored p
-unfolding encode_utf8
-same_ignored w p is = ⊎_elim (λ e. ap ignored e) (λ e. ap ignored e ∙ ap (λ t. trim (trailing_text (cut t))) (trim-white_end 10 p refl)) is
-
-pub same_reported : (n : ℕ) (w p : Text) → IsPieceOf w p → reported_of_reading w (strict_reading n w) ≡ reported_of_reading p (strict_reading n p)
-same_reported n w p is = reported_alike w p (same_ignored w p is) (strict_reading n w) ∙ ap (reported_of_reading p) (same_reading strict_line_reading n w p is)
-
-pub same_entry : (position : Position) (w p : Text) → IsPieceOf w p → entry (record { position = position; text = w }) ≡ entry (record { position = position; text = p })
-unfolding entry
-same_entry position w p is = ap (option_and_then result_ok) (same_reading line_reading position.line w p is)
+same_reading : (says : ℕ → Text → Reading) (n : ℕ) (w p : Text) → IsPieceOf w p → reading_by says n w ≡ reading_by says n p
+same_reading says n w p is = grind (arith, reading_by-feed)
 
 -- ---- all readings
 
@@ -74,16 +58,14 @@ said-located says buffer n (w ∷ ws) (p ∷ ps) are =
 
 pub said-buffer : (says : ℕ → Text → Reading) (s : Text) → said (reading_by says) (located_lines (s ∷ [])) ≡ readings_from (reading_by says) 1 (pieces s)
 unfolding lines_from
-said-buffer says s = ap (said (reading_by says)) (append-nil (located_from 0 1 (whole_lines s))) ∙ said-located says 0 1 (whole_lines s) (pieces s) (are_pieces s)
+said-buffer says s = grind (arith, append-nil, said-located, are_pieces)
 
 -- ---- the entries
 
-good_first : (o : Option Reading) (l : Line) (ls : List Line) (rs : List Reading) → entry l ≡ option_and_then result_ok o → entries (located ls) ≡ mappings_in rs
-    → entries (located (l ∷ ls)) ≡ mappings_in (option_to_list o ++ rs)
+good_first : (o : Option Reading) (l : Line) (ls : List Line) (rs : List Reading) → entry l ≡ option_and_then result_ok o
+    → entries (located ls) ≡ mappings_in rs → entries (located (l ∷ ls)) ≡ mappings_in (option_to_list o ++ rs)
 unfolding mappings_in
-good_first None l ls rs is e = ap (λ x. entries (cons_option (option_map (λ m. record { position = l.position; entry = m }) x) (located ls))) is ∙ e
-good_first (Some (Ok m)) l ls rs is e = ap (λ x. entries (cons_option (option_map (λ m. record { position = l.position; entry = m }) x) (located ls))) is ∙ ap (λ es. m ∷ es) e
-good_first (Some (Err f)) l ls rs is e = ap (λ x. entries (cons_option (option_map (λ m. record { position = l.position; entry = m }) x) (located ls))) is ∙ e
+good_first o l ls rs is e = grind arith
 
 mappings_of-located : (buffer n : ℕ) (ws ps : List Text) → ArePiecesOf ws ps → entries (located (located_from buffer n ws)) ≡ mappings_in (readings_from reading n ps)
 unfolding located_from readings_from mappings_in entry
@@ -94,10 +76,56 @@ mappings_of-located buffer n (w ∷ ws) (p ∷ ps) are =
     grind (arith, good_first, same_reading, (mappings_of-located buffer (n + 1) ws ps are.1))
 
 pub entries-append : (xs ys : List Line) → entries (located (xs ++ ys)) ≡ entries (located xs) ++ entries (located ys)
-entries-append xs ys = ap entries (filter_map-append located_entry xs ys) ∙ map-append (λ (x : LocatedMapping). x.entry) (located xs) (located ys)
+entries-append xs ys = grind (arith, filter_map-append, map-append)
 
 pub mappings_of-located_lines : (buffer : ℕ) (ss : List Text) → entries (located (lines_from buffer ss)) ≡ flat_map mappings_of ss
 unfolding lines_from
 mappings_of-located_lines buffer [] = refl
 mappings_of-located_lines buffer (s ∷ ss) =
     grind (arith, entries-append, mappings_of-located, are_pieces, (mappings_of-located_lines (buffer + 1) ss))
+
+-- ---- two readings of a line
+
+-- a line with an entry in strict parsing has the same entry in lenient parsing
+pub entry_strictly : (n : ℕ) (line : Text) (e : Mapping) → strict_reading n line ≡ Some (Ok e) → reading n line ≡ Some (Ok e)
+entry_strictly n line e is = grind arith
+
+-- a comment or a blank line has no entry in either
+pub no_entry : (n : ℕ) (line : Text) → strict_reading n line ≡ None → reading n line ≡ None
+no_entry n line is = grind arith
+
+-- the finding about a line's text has the line's number
+pub reading_numbered : (n m : ℕ) (move : Position → Position) (line : Text) → reported_of_reading line (strict_reading n line)
+    ≡ option_map (with_number move n) (reported_of_reading line (strict_reading m line))
+reading_numbered n m move line = grind arith
+
+-- the entry of a line doesn't depend on its position
+pub entry_same : (l m : Line) → l.text ≡ m.text → entry l ≡ entry m
+unfolding entry
+entry_same l m e = grind arith
+
+pub entries-renumbered : (buffer line : ℕ) (ls : List Line)
+    → entries (located (located_from buffer line (texts ls))) ≡ entries (located ls)
+unfolding located_from
+entries-renumbered buffer line [] = refl
+entries-renumbered buffer line (l ∷ ls) = grind (arith, entry_same, (entries-renumbered buffer (line + 1) ls))
+
+pub texts-located : (buffer line : ℕ) (ts : List Text) → texts (located_from buffer line ts) ≡ ts
+unfolding located_from
+texts-located buffer line [] = refl
+texts-located buffer line (t ∷ ts) = ap (λ us. t ∷ us) (texts-located buffer (line + 1) ts)
+
+-- ---- entries are accepted, since they have a new name or a new email
+
+entry_accepted : (l : Line) → IfSome (entry l) (λ e. is_accepted e ≡ true)
+unfolding entry
+entry_accepted l = grind arith
+
+pub located_accepted : (ls : List Line) → AllByRecursion (λ x. is_accepted x.entry ≡ true) (located ls)
+located_accepted [] = tt
+located_accepted (l ∷ ls) = grind (arith, (entry_accepted l), (located_accepted ls))
+
+-- all entries of lines are accepted, as without_redundant requires
+pub items_accepted : (ls : List Line) (xs : List LocatedEntry) → map located_of xs ≡ located ls → All (λ x. is_accepted (mapping_of x.entry) ≡ true) xs
+items_accepted ls xs e = All-from_recursion _ xs (all_map located_of (λ x. is_accepted x.entry ≡ true) xs
+    (subst (AllByRecursion (λ x. is_accepted x.entry ≡ true)) (sym e) (located_accepted ls)))

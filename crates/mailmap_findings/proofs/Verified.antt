@@ -1,40 +1,45 @@
 -- From the results of parsing and of without_redundant to those of verify and prune, also for buffers without lines;
--- and when findings are equal.
-use Rattle.std.proofs.Common.{◌≡◌, Bool, true, false, true≢false, List, [], ◌∷◌, Result, Ok, Err, IfOk, filter, refl, sym, ap, subst, ◌∙◌, arith}
-use Rattle.std.specs.Prelude.{◌&&◌, ◌↔◌}
-use Rattle.std.specs.List.{flat_map}
+-- and when findings and explanations are equal.
+use Rattle.std.proofs.Common.{◌≡◌, List, [], Result, IfOk, sym, subst, arith, Decides, Option, Bor, nat_eq, option_copied, rules}
+use Rattle.std.specs.Prelude.{◌&&◌}
 use Rattle.mailmap_entries.specs.Folding.{Text}
-use Rattle.mailmap_redundancy.specs.Redundancy.{LocatedMapping, AreEffective, IsSublist, done, entries, settled}
-use Rattle.mailmap_redundancy.proofs.Kept.{reduced_sublist}
-use Rattle.mailmap_findings.specs.Findings.{AreFindings, Finding, IsPruned, findings, is_line_kept}
-use Rattle.mailmap_findings.specs.Positions.{located_lines, located}
-
-pub are_kept : (buffers : List Text) (xs kept : List LocatedMapping) → xs ≡ located (located_lines buffers) → AreEffective xs kept → IsSublist kept (located (located_lines buffers))
-are_kept buffers xs kept given effective = subst (IsSublist kept) given (reduced_sublist xs kept effective)
-
-pub is_pruned : (buffer text : Text) (xs kept : List LocatedMapping) → xs ≡ located (located_lines (buffer ∷ [])) → AreEffective xs kept
-    → text ≡ flat_map (λ l. l.text) (filter (is_line_kept kept) (located_lines (buffer ∷ []))) → IsPruned buffer text
-is_pruned buffer text xs kept given effective whole = record { kept = kept; effective = subst (λ ys. AreEffective ys kept) given effective; whole = whole }
+use Rattle.mailmap_redundancy.specs.Redundancy.{AreEffective, done, settled}
+use Rattle.mailmap_findings.specs.Findings.{contact_of}
+use Rattle.mailmap_findings.specs.Positions.{located_lines, located, same_position}
+use Rattle.std.specs.Option.{option_eq}
+use lib.Pointwise.{pointwise}
+use Rattle.mailmap_redundancy.specs.declared.located.Position.{Position}
+use Rattle.mailmap_findings.specs.Explanations.{explained, explained_by}
+use Rattle.mailmap_findings.specs.declared.explain.Explanation.{Explanation}
+use Rattle.mailmap_findings.specs.declared.verify.Contact as the_contact
 
 -- carries a property of the expected value over to a successful result
 pub if_given : {V E X : Type 0} (r : Result V E) (read : V → X) (P : X → Type 0) (given : X) → IfOk r (λ v. read v ≡ given) → ((x : X) → x ≡ given → P x) → IfOk r (λ v. P (read v))
-if_given (Ok v) read P given is h = h (read v) is
-if_given (Err e) read P given is h = tt
+if_given r read P given is h = grind arith
 
 -- ---- buffers without lines
 
-no_line : (buffers : List Text) → located_lines buffers ≡ [] → AreEffective (located (located_lines buffers)) []
+pub no_line : (buffers : List Text) → located_lines buffers ≡ [] → AreEffective (located (located_lines buffers)) []
 no_line buffers none = subst (λ ls. AreEffective (located ls) []) (sym none) (settled [] (done []))
 
-pub no_findings : (buffers : List Text) (found : List Finding) → located_lines buffers ≡ [] → found ≡ [] → AreFindings buffers found
-no_findings buffers found none is = record { kept = []; effective = no_line buffers none; whole = is ∙ ap (flat_map (findings (entries (located (located_lines buffers))) [])) (sym none) }
+-- ---- equal explanations
 
-pub nothing_left : (buffer text : Text) → located_lines (buffer ∷ []) ≡ [] → text ≡ [] → IsPruned buffer text
-nothing_left buffer text none is = grind (arith, no_line)
+pub texts_decide : (o p : Option (Bor Text)) → Decides (option_eq (λ x y. pointwise nat_eq x.now y.now) o p) (option_copied o ≡ option_copied p)
+texts_decide o p = search rules
 
--- ---- equal findings
+pub position_decides : (a b : Position) → Decides (same_position a b) (a ≡ b)
+position_decides a b = grind arith
 
--- findings are equal exactly if their positions and what they report are
-pub same_finding : (p q : Bool) (a b : Finding) → (p ≡ true) ↔ (a.position ≡ b.position) → (q ≡ true) ↔ (a.kind ≡ b.kind) → ((p && q) ≡ true) ↔ (a ≡ b)
-same_finding true q a b place what = (λ e i. record { position = place.0 refl i; kind = what.0 e i }, λ e. what.1 (ap (λ f. f.kind) e))
-same_finding false q a b place what = (λ e. absurd (true≢false (sym e)), λ e. absurd (true≢false (sym (place.1 (ap (λ f. f.position) e)))))
+pub positions_decide : (o p : Option Position) → Decides (option_eq same_position o p) (o ≡ p)
+positions_decide o p = grind arith
+
+pub explanations_decide : (a b : Explanation) → Decides (option_eq (λ x y. pointwise nat_eq x.now y.now) a.name b.name
+    && (option_eq (λ x y. pointwise nat_eq x.now y.now) a.email b.email && (same_position a.first b.first
+    && option_eq same_position a.second b.second))) ((explained a ≡ explained b) × (explained_by a ≡ explained_by b))
+explanations_decide a b = grind (arith, texts_decide, positions_decide)
+
+-- ---- findings
+
+pub contact_decides : (a b : the_contact.Contact)
+    → Decides (option_eq (λ x y. pointwise nat_eq x.now y.now) a.name b.name && pointwise nat_eq a.email.now b.email.now) (contact_of a ≡ contact_of b)
+contact_decides a b = search rules

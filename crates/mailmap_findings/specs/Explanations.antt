@@ -10,21 +10,21 @@ use Rattle.mailmap_findings.specs.declared.explain.Explanation.{Explanation}
 use Rattle.mailmap_findings.specs.declared.explain.Needed.{Needed}
 
 -- in the order of the lines; equal positions count once
-abbrev pub two_in_order : Position → Position → List Position
-two_in_order a b = match_ordering (position_cmp a b) (a ∷ b ∷ []) (a ∷ []) (b ∷ a ∷ [])
+abbrev pub in_order : Option Position → Option Position → List Position
+in_order (Some a) (Some b) = match_ordering (position_cmp a b) (a ∷ b ∷ []) (a ∷ []) (b ∷ a ∷ [])
+in_order a b = option_to_list (option_or a b)
 
--- in the order of the lines
-abbrev pub in_order : Option LocatedMapping → Option LocatedMapping → List Position
-in_order (Some x) (Some y) = two_in_order x.position y.position
-in_order x y = option_to_list (option_map (λ z. z.position) (option_or x y))
+abbrev pub position_of : Option LocatedMapping → Option Position
+position_of o = option_map (λ x. x.position) o
 
 -- the lines that an answer needs
 abbrev pub needed_positions : Origins → List Position
-needed_positions g = in_order g.name (option_or g.email g.spelling)
+needed_positions g = in_order (position_of g.name) (position_of (option_or g.email g.spelling))
 
 -- the lines behind the answer's new fields: the one that spells the email only if the email changes
 abbrev pub origin_positions : Origins → Fields → List Position
-origin_positions g f = in_order g.name (if is_some f.email then option_or g.email g.spelling else None)
+origin_positions g f =
+    in_order (position_of g.name) (position_of (if is_some f.email then option_or g.email g.spelling else None))
 
 -- the specification's view of a `Needed`
 abbrev pub positions_of : Needed → List Position

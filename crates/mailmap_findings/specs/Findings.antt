@@ -45,8 +45,7 @@ kind_of (variant.Fault e) = fault (fault_of e)
 kind_of (variant.IgnoredText text) = ignored_text text.now
 kind_of (variant.GitReads reading) = git_reads (git_reading_of reading)
 kind_of (variant.NoEffect beside is_same) = no_effect beside is_same
-kind_of (variant.ItselfMapped contact to line second) =
-    itself_mapped (contact_of contact) (contact_of to) line second
+kind_of (variant.ItselfMapped contact to line second) = itself_mapped (contact_of contact) (contact_of to) line second
 
 abbrev pub finding_of : the_finding.Finding → Finding
 finding_of f = record { position = f.position; kind = kind_of f.kind }
@@ -95,12 +94,9 @@ mapping_positions h kept c =
     origin_positions (origins kept (unwrap_or c.name []) c.email) (fields_for h (unwrap_or c.name []) c.email)
 
 -- a contact that is mapped to another one by one or two lines
-abbrev pub reported_by : NewContact → NewContact → Position → Option Position → Option FindingKind
-reported_by c to line second = if is_same_contact c to then None else Some (itself_mapped c to line second)
-
 abbrev pub reported_of_contact : NewContact → NewContact → List Position → Option FindingKind
 reported_of_contact c to [] = None
-reported_of_contact c to (p ∷ ps) = reported_by c to p (first ps)
+reported_of_contact c to (p ∷ ps) = if is_same_contact c to then None else Some (itself_mapped c to p (first ps))
 
 -- whether an entry's contact is itself mapped
 abbrev pub reported_of_proper : List Mapping → List LocatedMapping → NewContact → Option FindingKind
@@ -120,21 +116,16 @@ reported_of_entry h kept false e = option_map (no_effect_beside e) (last_of_key 
 
 -- ---- all findings of all lines
 
--- the findings of a line: h has the entries of all lines, `kept` the effective ones, and is_kept tells whether the
--- line's own entry is among those
-abbrev pub reported_of_line : List Mapping → List LocatedMapping → Bool → Line → List FindingKind
-reported_of_line h kept is_kept l =
+-- the findings of a line: h has the entries of all lines, and `kept` the effective ones, which have one at the line's
+-- position if its own is effective
+abbrev pub reported_of_line : List Mapping → List LocatedMapping → Line → List FindingKind
+reported_of_line h kept l =
     option_to_list (reported_of_reading l.text (strict_reading l.position.line l.text)) ++
     option_to_list (option_map git_reads (read_otherwise l)) ++
-    option_to_list (option_and_then (reported_of_entry h kept is_kept) (entry l))
+    option_to_list (option_and_then (reported_of_entry h kept (has_entry_at kept l.position)) (entry l))
 
-abbrev pub line_findings : List Mapping → List LocatedMapping → Bool → Line → List Finding
-line_findings h kept is_kept l =
-    map (λ t. record { position = l.position; kind = t }) (reported_of_line h kept is_kept l)
-
--- the line's entry is effective if `kept` has an entry at its position
 abbrev pub findings : List Mapping → List LocatedMapping → Line → List Finding
-findings h kept l = line_findings h kept (has_entry_at kept l.position) l
+findings h kept l = map (λ t. record { position = l.position; kind = t }) (reported_of_line h kept l)
 
 -- the findings of all lines of the buffers, in their order: all that there are, and nothing else
 pub record AreFindings (buffers : List Text) (found : List Finding) : Type 0 where

@@ -2,17 +2,16 @@
 use Rattle.std.specs.Prelude.{◌==◌, ◌||◌, ℕ, Bool, if◌then◌else◌, Option, Some, None, List, [], ◌∷◌, length, unwrap_or}
 use Rattle.std.specs.List.{filter_map}
 use Rattle.std.specs.Option.{option_and_then, option_map, option_to_list}
-use Rattle.std.specs.Result.{result_ok}
 use Rattle.std.specs.Simd.{first_chunks}
 use Rattle.std.specs.Slice.Iter.{chunk_count}
 use Rattle.bstr.specs.Trim.{trim_start_by, trim_end_by}
 use Rattle.mailmap_entries.specs.Folding.{Text}
 use Rattle.mailmap_entries.specs.Entries.{Mapping, mapping_of}
 use Rattle.mailmap_entries.specs.Listings.{same_entries}
-use Rattle.mailmap_grammar.specs.Lines.{ParsedContact, Absent, Unclosed, Closed, cut, split_once, non_empty, by_both, by_name, is_comment, reading}
-use Rattle.mailmap_findings.specs.declared.git.reading.GitReading as the_reading
-use Rattle.mailmap_findings.specs.declared.git.reading.GitReading.TheVariants as variant
-use Rattle.mailmap_findings.specs.declared.git.contacts.GitContact as the_contact
+use Rattle.mailmap_grammar.specs.Lines.{ParsedContact, Absent, Unclosed, Closed, cut, split_once, non_empty, by_both, by_name, is_comment}
+use Rattle.mailmap_findings.specs.declared.git.GitReading as the_reading
+use Rattle.mailmap_findings.specs.declared.git.GitReading.TheVariants as variant
+use Rattle.mailmap_findings.specs.declared.git.GitContact as the_contact
 
 -- space, tab, carriage return and line feed
 abbrev pub is_git_space : ℕ → Bool
@@ -63,10 +62,6 @@ parts line = first_chunks 1023 (chunk_count (length line) 1023) line
 unfoldable pub git_entries : Text → List Mapping
 git_entries line = filter_map part_entry (parts line)
 
--- the entry that this library reads from a line
-abbrev pub library_entry : Text → Option Mapping
-library_entry line = option_and_then result_ok (reading 1 line)
-
 -- what git reads from a line: no entry, one, or the number of several
 pub data GitReading : Type 0 where
   Nothing : GitReading
@@ -84,10 +79,7 @@ git_reading_of variant.Nothing = Nothing
 git_reading_of (variant.Entry e) = Entry (mapping_of e)
 git_reading_of (variant.Lines count) = Lines count
 
--- whether git reads exactly this entry, or none if there is none
-abbrev pub reads_alike : Option Mapping → Text → Bool
-reads_alike own line = same_entries (git_entries line) (option_to_list own)
-
--- what git reads from the line if that differs from this entry, else None
+-- what git reads from the line if that isn't exactly this entry, or nothing if there is none; else None
 abbrev pub read_in_place : Option Mapping → Text → Option GitReading
-read_in_place own line = if reads_alike own line then None else Some (git_reading (git_entries line))
+read_in_place own line =
+    if same_entries (git_entries line) (option_to_list own) then None else Some (git_reading (git_entries line))

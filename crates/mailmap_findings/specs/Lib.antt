@@ -8,7 +8,5 @@ pub mod Findings
 pub mod GitAnswers
 pub mod Explanations
 pub mod Pruning
-pub mod Clean
-pub mod Marked
 pub mod Needs
 pub mod Remarks

@@ -1,5 +1,5 @@
 -- The lines of buffers with their positions, and their entries.
-use Rattle.std.specs.Prelude.{◌≡◌, ◌⊎◌, ◌+◌, ◌==◌, ◌&&◌, ℕ, Bool, if◌then◌else◌, Option, List, [], ◌∷◌, ◌++◌, filter}
+use Rattle.std.specs.Prelude.{◌+◌, ◌==◌, ◌&&◌, ℕ, Bool, if◌then◌else◌, Option, List, [], ◌∷◌, ◌++◌, filter}
 use Rattle.std.specs.List.{AllByRecursion, filter_map, flat_map, list_any}
 use Rattle.std.specs.Option.{option_map, option_and_then}
 use Rattle.std.specs.Result.{result_ok}
@@ -23,10 +23,6 @@ pub record Line : Type 0 where
 -- the specification's view of a line
 abbrev pub line_of : the_line → Line
 line_of l = record { position = l.position; text = l.text.now }
-
--- w is p, with or without a line feed at its end
-abbrev pub IsPieceOf : Text → Text → Type 0
-IsPieceOf w p = (w ≡ p) ⊎ (w ≡ p ++ 10 ∷ [])
 
 -- the lines of a buffer, including their line feeds: they concatenate to the buffer
 unfoldable pub whole_lines : Text → List Text

@@ -33,10 +33,9 @@ with_number move n (no_effect beside is_same) = no_effect (move beside) is_same
 with_number move n (itself_mapped contact to line second) =
     itself_mapped contact to (move line) (option_map move second)
 
--- moves a finding to line n of a text of its own
-abbrev pub at_line : (Position → Position) → ℕ → Finding → Finding
-at_line move n f = record { position = record { buffer = 0; line = n }; kind = with_number move n f.kind }
-
 -- moves a finding, and the lines that it names, to where these are among these lines
 abbrev pub renumbered : List Line → Finding → Finding
-renumbered ls f = at_line (position_among ls) (number_among ls f.position) f
+renumbered ls f = record {
+  position = position_among ls f.position;
+  kind = with_number (position_among ls) (number_among ls f.position) f.kind;
+}

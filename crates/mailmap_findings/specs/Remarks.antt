@@ -23,16 +23,14 @@ remark_of (variant.Unneeded position) = unneeded position
 
 -- the findings of a line, and then whether it has an effect but no contact needs it
 abbrev pub line_remarks : List Mapping → List LocatedMapping → List Text → Line → List Remark
-line_remarks h kept contacts l =
-    map found (findings h kept l) ++
+line_remarks h kept contacts l = map found (findings h kept l) ++
     (if has_entry_at kept l.position && not (any_needs kept contacts l.position) then unneeded l.position ∷ [] else [])
 
 -- the remarks on the lines of the buffers, in the order of the lines
 pub record AreRemarks (buffers : List Text) (contacts : Text) (remarks : List Remark) : Type 0 where
   pub kept : List LocatedMapping
   pub effective : AreEffective (located (located_lines buffers)) kept
-  pub whole :
-      remarks ≡ flat_map (line_remarks (entries (located (located_lines buffers))) kept (whole_lines contacts))
+  pub whole : remarks ≡ flat_map (line_remarks (entries (located (located_lines buffers))) kept (whole_lines contacts))
       (located_lines buffers)
 
 -- ---- merging findings and positions, each in the order of the lines
@@ -48,8 +46,8 @@ abbrev pub merged_remarks : List Finding → List Position → List Remark
 merged_remarks [] ps = map unneeded ps
 merged_remarks (f ∷ fs) ps = with_finding f (merged_remarks fs) ps
 
--- the first position, if it comes before the finding
-abbrev pub first_before : Option Finding → List Position → Option Position
+-- the first position and the others, if it comes before the finding
+abbrev pub first_before : Option Finding → List Position → Option (Position × List Position)
 first_before ahead [] = None
-first_before None (p ∷ ps) = Some p
-first_before (Some f) (p ∷ ps) = if is_lt (position_cmp p f.position) then Some p else None
+first_before None (p ∷ ps) = Some (p, ps)
+first_before (Some f) (p ∷ ps) = if is_lt (position_cmp p f.position) then Some (p, ps) else None

@@ -6,7 +6,7 @@
 //! let found = explanations.of(b"jd", b"jd@X");
 //! // the name `Jane` by line 2 and the email `jane@x` by line 1
 //! ```
-ghost use Rattle.std.specs.Prelude.{◌≡◌, IfOk, IfSome, IsSome, None, map};
+ghost use Rattle.std.specs.Prelude.{◌≡◌, IfOk, IfSome, None, map};
 ghost use Rattle.std.specs.Option.{option_map};
 ghost use Rattle.mailmap_entries.specs.Semantics.{answer_of};
 ghost use Rattle.mailmap_redundancy.specs.Origins.{origins};
@@ -65,7 +65,7 @@ pub struct Needed {
 
 impl<'m, 'a> Explanations<'m, 'a> {
     /// Finds out which entries have an effect. Allocates all the memory that the explanations need.
-    #[tactic(auto, using(crate::proofs::Readings::items_accepted))]
+    #[tactic(auto, using(crate::proofs::Read::items_accepted))]
     pub fn new(
         alloc: Global,
         mailmaps: &'m Mailmaps<'_, 'a>,
@@ -89,10 +89,12 @@ impl<'m, 'a> Explanations<'m, 'a> {
     }
 
     /// The lines that have an effect, in their order.
+    #[tactic(auto, using(crate::proofs::Lines::mapped))]
     pub fn lines(&self, alloc: Global) -> Result<Vec<Position>, AllocError>
         ensures { IfOk result (λ lines. lines.items ≡ map (λ x. x.position) self.now.kept) }
     {
-        positions_in(alloc, self.effective.kept())
+        let kept = self.effective.kept();
+        kept.iter().map(|entry| entry.position).collect(alloc)
     }
 
     /// The lines that the answer to a name and an email needs: deleting any other line leaves it as it is.
@@ -101,7 +103,8 @@ impl<'m, 'a> Explanations<'m, 'a> {
         ensures second { result.first ≡ None → result.second ≡ None }
     {
         let origins = self.effective.origins(name, email);
-        in_order(origins.name, origins.email.or(origins.spelling))
+        let email = origins.email.or(origins.spelling);
+        in_order(position_of(origins.name), position_of(email))
     }
 }
 
@@ -127,64 +130,37 @@ pub(crate) fn explanation_of<'a>(
     })
 }
 
-fn positions_in(alloc: Global, entries: &[&LocatedEntry<'_>]) -> Result<Vec<Position>, AllocError>
-    ensures { IfOk result (λ lines. lines.items ≡ map (λ x. x.now.position) entries.now) }
-{
-    entries.iter().map(|entry| entry.position).collect(alloc)
-}
-
 // The lines behind the new fields. The line that spells the email counts only if it changes the email.
 fn giving(origins: &Origins<'_, '_>, fields: &Fields<'_>) -> Needed
     ensures positions { positions_of result ≡ origin_positions (origins_of origins.now) (fields_of fields.now) }
     ensures second { result.first ≡ None → result.second ≡ None }
 {
-    let emails = if fields.email.is_some() {
+    let email = if fields.email.is_some() {
         origins.email.or(origins.spelling)
     } else {
         None
     };
-    in_order(origins.name, emails)
+    in_order(position_of(origins.name), position_of(email))
 }
 
-fn in_order(a: Option<&LocatedEntry<'_>>, b: Option<&LocatedEntry<'_>>) -> Needed
-    ensures positions { positions_of result ≡ spec.in_order (referred a.entry) (referred b.entry) }
-    ensures second { result.first ≡ None → result.second ≡ None }
+fn position_of(entry: Option<&LocatedEntry<'_>>) -> Option<Position>
+    ensures { result ≡ spec.position_of (referred entry.entry) }
 {
-    let Some(x) = a else { return one(b) };
-    let Some(y) = b else { return one(a) };
-    two_in_order(x.position, y.position)
-}
-
-fn one(a: Option<&LocatedEntry<'_>>) -> Needed
-    ensures positions { positions_of result ≡ spec.in_order (referred a.entry) None }
-    ensures second { result.second ≡ None }
-{
-    Needed {
-        first: match a {
-            Some(x) => Some(x.position),
-            None => None,
-        },
-        second: None,
-    }
+    Some(entry?.position)
 }
 
 // Equal positions count once.
-fn two_in_order(a: Position, b: Position) -> Needed
-    ensures positions { positions_of result ≡ spec.two_in_order a b }
-    ensures first { IsSome result.first }
+fn in_order(a: Option<Position>, b: Option<Position>) -> Needed
+    ensures positions { positions_of result ≡ spec.in_order a b }
+    ensures second { result.first ≡ None → result.second ≡ None }
 {
-    match a.cmp(&b) {
-        Ordering::Less => Needed {
-            first: Some(a),
-            second: Some(b),
+    let (first, second) = match (a, b) {
+        (Some(x), Some(y)) => match x.cmp(&y) {
+            Ordering::Less => (a, b),
+            Ordering::Equal => (a, None),
+            Ordering::Greater => (b, a),
         },
-        Ordering::Equal => Needed {
-            first: Some(a),
-            second: None,
-        },
-        Ordering::Greater => Needed {
-            first: Some(b),
-            second: Some(a),
-        },
-    }
+        _ => (a.or(b), None),
+    };
+    Needed { first, second }
 }

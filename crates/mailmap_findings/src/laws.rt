@@ -1,25 +1,25 @@
-//! Laws about lines, findings and pruned texts. These functions do nothing: each states its law in its contract.
-ghost use Rattle.std.specs.Prelude.{◌≡◌, ◌↔◌, ◌∷◌, [], List, None, filter, not, option_to_list, true};
+//! Laws about lines, findings, pruned texts, and the lines that contacts need. These functions do nothing: each states
+//! its law in its contract.
+ghost use Rattle.std.specs.Prelude.{◌≡◌, ◌≢◌, ◌↔◌, ◌++◌, ◌∷◌, [], List, None, Some, false, filter, map, not, option_to_list, true, Bool, Contains};
 ghost use Rattle.std.specs.List.{flat_map};
 ghost use Rattle.mailmap_entries.specs.Entries.{Mapping};
 ghost use Rattle.mailmap_entries.specs.Folding.{Text};
-ghost use Rattle.mailmap_grammar.specs.Lines.{mappings_of, readings, reading, strict_reading, strict_readings};
-ghost use Rattle.mailmap_entries.specs.Semantics.{IsNormal};
+ghost use Rattle.mailmap_grammar.specs.Lines.{mappings_of, readings, reading, strict_reading, strict_readings, Closed, contact_in};
+ghost use Rattle.mailmap_entries.specs.Semantics.{IsNormal, answer_of};
 ghost use Rattle.mailmap_redundancy.specs.Redundancy.{entries};
 ghost use Rattle.mailmap_redundancy.specs.declared.located.Position.{Position};
 ghost use Rattle.mailmap_findings.specs.Findings.{AreFindings, AreInOrder, NewContact, Finding, IsPruned, first_read_otherwise, is_reported_redundant, is_same_contact};
 ghost use Rattle.mailmap_findings.specs.GitAnswers.{git_answer};
-ghost use Rattle.mailmap_findings.specs.Positions.{located_lines, located, same_position, whole_lines};
+ghost use Rattle.mailmap_findings.specs.Positions.{Line, entry, located_lines, located, same_position, whole_lines, texts_left};
+ghost use Rattle.mailmap_findings.specs.Pruning.{is_left, lines_left, renumbered};
+ghost use Rattle.mailmap_findings.specs.Needs.{AreUnneeded, is_deletable};
 
 mod equal;
-mod git;
-mod needs;
-mod pruning;
 
-pub use equal::{law_equal_explanations, law_equal_findings, law_equal_kinds};
-pub use git::law_equal_git_readings;
-pub use needs::{law_contacts_stay, law_deleted_texts, law_equal_remarks, law_one_unneeded};
-pub use pruning::{law_none_left, law_pruned_findings};
+pub use equal::{
+    law_equal_explanations, law_equal_findings, law_equal_git_readings, law_equal_kinds,
+    law_equal_remarks,
+};
 
 /// A buffer's lines, including their line feeds, concatenate to the buffer. Parsed line by line, they have the same
 /// readings and entries as the whole.
@@ -79,4 +79,63 @@ pub fn law_pruned_for_git()
         → first_read_otherwise (text ∷ []) ≡ None }
     ensures answers { (buffer text : Text) → IsPruned buffer text → first_read_otherwise (buffer ∷ []) ≡ None
         → (name email : Text) → git_answer text name email ≡ git_answer buffer name email }
+{}
+
+/// A pruned text has no line without effect. Its other findings are those of the lines that were kept, with their new
+/// line numbers.
+pub fn law_pruned_findings()
+    ensures none { (buffer text : Text) (left : List Finding) (l : Line) → IsPruned buffer text
+        → AreFindings (text ∷ []) left → is_reported_redundant left l ≡ false }
+    ensures others { (buffer text : Text) (found left : List Finding) → AreFindings (buffer ∷ []) found
+        → IsPruned buffer text → AreFindings (text ∷ []) left
+        → left ≡ map (renumbered (lines_left buffer found)) (filter (is_left found) found) }
+{}
+
+/// No line of a pruned text that has an entry can be deleted: the normal list would differ, whether that of the
+/// remaining entries or that of the remaining text.
+pub fn law_none_left()
+    ensures entries { (buffer text : Text) (a c : List Line) (l : Line) (e : Mapping) (n m : List Mapping)
+        → IsPruned buffer text → located_lines (text ∷ []) ≡ a ++ l ∷ c → entry l ≡ Some e
+        → IsNormal (mappings_of text) n → IsNormal (entries (located (a ++ c))) m → n ≢ m }
+    ensures text { (buffer text : Text) (a c : List Line) (l : Line) (e : Mapping) (n m : List Mapping)
+        → IsPruned buffer text → located_lines (text ∷ []) ≡ a ++ l ∷ c → entry l ≡ Some e
+        → IsNormal (mappings_of text) n → IsNormal (mappings_of (flat_map (λ k. k.text) (a ++ c))) m → n ≢ m }
+{}
+
+/// All lines reported as without effect, and all that no contact needs, can be deleted at once: with the other lines,
+/// the answer to each contact stays as it was.
+pub fn law_contacts_stay()
+    ensures { (buffers : List Text) (contacts : Text) (found : List Finding) (missing : List Position)
+        (line name email rest : Text)
+        → AreFindings buffers found → AreUnneeded buffers contacts missing
+        → Contains (whole_lines contacts) line → contact_in line ≡ Closed name email rest
+        → answer_of
+        (entries (located (filter (λ l. not (is_deletable found missing l)) (located_lines buffers)))) name email
+        ≡ answer_of (flat_map mappings_of buffers) name email }
+{}
+
+/// Lines can be deleted from the texts themselves: the remaining texts have the entries of the remaining lines. So
+/// without the lines reported as without effect, the texts have the same normal list; without the lines that no contact
+/// needs as well, they give each contact the same answer.
+pub fn law_deleted_texts()
+    ensures entries { (is_left : Line → Bool) (buffers : List Text)
+        → flat_map mappings_of (texts_left is_left buffers)
+        ≡ entries (located (filter is_left (located_lines buffers))) }
+    ensures listing { (buffers : List Text) (found : List Finding) (n : List Mapping) → AreFindings buffers found
+        → IsNormal (flat_map mappings_of buffers) n
+        ↔ IsNormal (flat_map mappings_of (texts_left (λ l. not (is_reported_redundant found l)) buffers)) n }
+    ensures contacts { (buffers : List Text) (contacts : Text) (found : List Finding) (missing : List Position)
+        (line name email rest : Text)
+        → AreFindings buffers found → AreUnneeded buffers contacts missing
+        → Contains (whole_lines contacts) line → contact_in line ≡ Closed name email rest
+        → answer_of (flat_map mappings_of (texts_left (λ l. not (is_deletable found missing l)) buffers)) name email
+        ≡ answer_of (flat_map mappings_of buffers) name email }
+{}
+
+/// Contacts have exactly one list of lines that they don't need.
+pub fn law_one_unneeded()
+    ensures some { (buffers : List Text) (contacts : Text)
+        → (missing : List Position) × AreUnneeded buffers contacts missing }
+    ensures one { (buffers : List Text) (contacts : Text) (missing other : List Position)
+        → AreUnneeded buffers contacts missing → AreUnneeded buffers contacts other → missing ≡ other }
 {}

@@ -32,7 +32,6 @@ use std::marker::Model;
 /// that are not contacts need nothing.
 ///
 /// With the mailmap `Jane <jd@x>\nJoe <joe@x>\n`, the contacts `jd <JD@x>\n` don't need line 2.
-#[tactic(auto, using(crate::proofs::Verified::if_given))]
 pub fn unneeded(
     alloc: Global,
     buffers: &[&[u8]],
@@ -115,9 +114,7 @@ impl<'m, 'a> Needs<'m, 'a> {
     }
 
     fn add_all(&mut self, contacts: &[u8])
-        ensures history { self.new.history ≡ self.old.history }
-        ensures kept { self.new.kept ≡ self.old.kept }
-        ensures left { self.new.left
+        ensures { self.new.left
             ≡ filter (λ p. not (any_needs self.old.kept (whole_lines contacts.now) p)) self.old.left }
     {
         for line in contacts.lines_with_terminator() {

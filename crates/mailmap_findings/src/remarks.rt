@@ -3,15 +3,13 @@
 //! ```text
 //! for remark in Remarks::new(verification.findings(), needs.unneeded(alloc)?.as_slice()) { .. }
 //! ```
-ghost use Rattle.std.specs.Prelude.{◌≡◌, List, None, Some, drop, if◌then◌else◌};
-ghost use Rattle.std.specs.Ordering.{is_lt};
+ghost use Rattle.std.specs.Prelude.{◌≡◌, List};
 ghost use Rattle.std.specs.Iterator.{YieldsFirstBy, item_count};
 ghost use Rattle.std.specs.Option.{option_map};
 ghost use Rattle.mailmap_entries.specs.Folding.{Text};
 ghost use Rattle.mailmap_findings.specs.Findings.{AreFindings, finding_of};
 ghost use Rattle.mailmap_findings.specs.Needs.{AreUnneeded};
-ghost use Rattle.mailmap_findings.specs.Remarks.{AreRemarks, first_before, remark_of};
-ghost use Rattle.mailmap_redundancy.specs.Redundancy.{position_cmp};
+ghost use Rattle.mailmap_findings.specs.Remarks.{AreRemarks, first_before as spec_first_before, remark_of};
 
 use crate::verify::{Finding, Findings, Position};
 use std::marker::Model;
@@ -33,27 +31,25 @@ pub struct Remarks<'v, 'a> {
     // the next finding, then those after it
     ahead: Option<Finding<'a>>,
     findings: Findings<'v, 'a>,
-    // the lines that no contact needs, and how many of them were returned
+    // the lines that are left of those that no contact needs
     unneeded: &'v [Position],
-    given: usize,
 }
 
 impl<'v, 'a> Model for Remarks<'v, 'a> {
-    ghost use Rattle.std.specs.Prelude.{◌≡◌, ◌++◌, [], List, None, drop, option_to_list};
+    ghost use Rattle.std.specs.Prelude.{◌≡◌, ◌++◌, [], List, None, option_to_list};
     ghost use Rattle.std.specs.Option.{option_map};
     ghost use Rattle.mailmap_findings.specs.Findings.{finding_of};
     ghost use Rattle.mailmap_findings.specs.Remarks.{Remark, merged_remarks};
 
     ghost Value = { List Remark };
 
-    ghost view = { λ s. merged_remarks (option_to_list (option_map finding_of s.ahead) ++ s.findings)
-        (drop s.given s.unneeded.now) };
+    ghost view = { λ s. merged_remarks (option_to_list (option_map finding_of s.ahead) ++ s.findings) s.unneeded.now };
 
     ghost invariant = { λ s. s.ahead ≡ None → s.findings ≡ [] };
 }
 
 impl<'v, 'a> Remarks<'v, 'a> {
-    #[tactic(auto, using(crate::proofs::Merging::ahead_first, crate::proofs::Merging::are_remarks))]
+    #[tactic(auto, using(crate::proofs::ContactNeeds::are_remarks))]
     pub fn new(mut findings: Findings<'v, 'a>, unneeded: &'v [Position]) -> Remarks<'v, 'a>
         ensures { (buffers : List Text) (contacts : Text) → AreFindings buffers findings.entry
             → AreUnneeded buffers contacts unneeded.now → AreRemarks buffers contacts result }
@@ -62,7 +58,6 @@ impl<'v, 'a> Remarks<'v, 'a> {
             ahead: findings.next(),
             findings,
             unneeded,
-            given: 0,
         }
     }
 }
@@ -74,10 +69,10 @@ impl<'v, 'a> Iterator for Remarks<'v, 'a> {
 
     ghost remaining = { item_count (λ s. s) };
 
-    #[tactic(auto, using(crate::proofs::Merging::none_mapped, crate::proofs::Merging::position_left, crate::proofs::Merging::position_next))]
+    #[tactic(auto, using(crate::proofs::ContactNeeds::position_next))]
     fn next(&mut self) -> Option<Remark<'a>> {
-        if let Some(position) = position_ahead(&self.ahead, self.unneeded, self.given) {
-            self.given += 1;
+        if let Some((position, rest)) = first_before(&self.ahead, self.unneeded) {
+            self.unneeded = rest;
             return Some(Remark::Unneeded(position));
         }
         let finding = self.ahead.take()?;
@@ -86,27 +81,16 @@ impl<'v, 'a> Iterator for Remarks<'v, 'a> {
     }
 }
 
-// The next unneeded line, if it comes before the next finding.
-fn position_ahead(
+// The first unneeded line and those after it, if it comes before the next finding.
+fn first_before<'v>(
     ahead: &Option<Finding<'_>>,
-    unneeded: &[Position],
-    given: usize,
-) -> Option<Position>
-    ensures { result ≡ first_before (option_map finding_of ahead.now) (drop given unneeded.now) }
+    unneeded: &'v [Position],
+) -> Option<(Position, &'v [Position])>
+    ensures { option_map (λ p. (p.0, p.1.now)) result ≡ spec_first_before (option_map finding_of ahead.now) unneeded.now }
 {
-    let position = *unneeded.get(given)?;
+    let (position, rest) = unneeded.split_first()?;
     match ahead {
-        None => Some(position),
-        Some(finding) => only_before(position, finding.position),
-    }
-}
-
-fn only_before(position: Position, other: Position) -> Option<Position>
-    ensures { result ≡ (if is_lt (position_cmp position other) then Some position else None) }
-{
-    if position < other {
-        Some(position)
-    } else {
-        None
+        Some(finding) if finding.position <= *position => None,
+        _ => Some((*position, rest)),
     }
 }

@@ -25,22 +25,18 @@ ghost use Rattle.mailmap_findings.specs.Findings.{AreFindings, IsPruned, finding
 ghost use Rattle.mailmap_findings.specs.Positions.{located_lines, located};
 
 mod effects;
-mod git;
-mod known;
 mod lines;
-mod reading;
 mod walk;
 
 pub use crate::git::GitReading;
-pub use git::first_read_otherwise;
-use known::{KnownLines, ReadEntries, read_entries};
-use lines::has_lines;
+use lines::{BufferLines, has_lines};
 use mailmap_grammar::lines::Error;
 pub use mailmap_redundancy::Position;
 use mailmap_redundancy::{Effective, LocatedEntry, without_redundant};
 use std::alloc::{AllocError, Global};
 use std::marker::Model;
-use walk::{LineFindings, MarkedLines, line_findings, pruned_text};
+pub use walk::first_read_otherwise;
+use walk::{LineFindings, entry_of, line_findings, pruned_text};
 
 /// What is wrong with a line, and where the line is.
 #[derive(PartialEq, Eq, Debug, Drop)]
@@ -94,7 +90,7 @@ pub struct Contact<'a> {
 ///
 /// For the buffer `P <a@x>\nP <a@x> p`, this reports that line 1 has no effect beside line 2, and that line 2 has the
 /// ignored text `p`.
-#[tactic(auto, using(crate::proofs::Verified::no_findings))]
+#[tactic(auto, using(crate::proofs::Verified::no_line))]
 pub fn verify<'a>(alloc: Global, buffers: &[&'a [u8]]) -> Result<Vec<Finding<'a>>, AllocError>
     ensures findings { IfOk result
         (λ findings. AreFindings (map (λ b. b.now) buffers.now) (map finding_of findings.items)) }
@@ -112,7 +108,7 @@ pub fn verify<'a>(alloc: Global, buffers: &[&'a [u8]]) -> Result<Vec<Finding<'a>
 
 /// Copies the buffer without the lines whose entries have no effect. All other lines are kept byte for byte, including
 /// comments and lines with faults.
-#[tactic(auto, using(crate::proofs::Readings::items_accepted, crate::proofs::Walking::kept_text_marked, crate::proofs::Verified::are_kept, crate::proofs::Verified::if_given, crate::proofs::Verified::is_pruned, crate::proofs::Verified::nothing_left))]
+#[tactic(auto, using(crate::proofs::Read::items_accepted, crate::proofs::Lines::kept_ascend, crate::proofs::Verified::if_given, crate::proofs::Verified::no_line))]
 pub fn prune(alloc: Global, buffer: &[u8]) -> Result<Vec<u8>, AllocError>
     ensures pruned { IfOk result (λ text. IsPruned buffer.now text.items) }
 
@@ -123,10 +119,9 @@ pub fn prune(alloc: Global, buffer: &[u8]) -> Result<Vec<u8>, AllocError>
     if !has_lines(&buffers) {
         return Ok(Vec::new(alloc));
     }
-    let read = read_entries(alloc, &buffers)?;
-    let effective = without_redundant(alloc, &read.entries)?;
-    let lines = MarkedLines::new(&buffers, effective.kept());
-    pruned_text(alloc, buffer.len(), lines)
+    let mailmaps = Mailmaps::read(alloc, &buffers)?;
+    let effective = without_redundant(alloc, mailmaps.entries())?;
+    pruned_text(alloc, buffer, &effective)
 }
 
 /// Mailmaps, each in its own buffer, with their entries. A [`Verification`] borrows from it.
@@ -135,7 +130,7 @@ pub fn prune(alloc: Global, buffer: &[u8]) -> Result<Vec<u8>, AllocError>
 #[derive(Drop)]
 pub struct Mailmaps<'b, 'a> {
     buffers: &'b [&'a [u8]],
-    read: ReadEntries<'a>,
+    entries: Vec<LocatedEntry<'a>>,
 }
 
 impl<'b, 'a> Model for Mailmaps<'b, 'a> {
@@ -143,14 +138,13 @@ impl<'b, 'a> Model for Mailmaps<'b, 'a> {
     ghost use Rattle.mailmap_entries.specs.Folding.{Text};
     ghost use Rattle.mailmap_redundancy.specs.Redundancy.{located_of};
     ghost use Rattle.mailmap_findings.specs.Positions.{located_lines, located};
-    ghost use Rattle.mailmap_findings.specs.Clean.{are_clean};
 
     ghost Value = { List Text };
 
     ghost view = { λ s. map (λ b. b.now) s.buffers.now };
 
-    ghost invariant = { λ s. let ls = located_lines (map (λ b. b.now) s.buffers.now) in
-        (map located_of s.read.entries.items ≡ located ls) × (s.read.clean.items ≡ are_clean ls) };
+    ghost invariant = { λ s. map located_of s.entries.items
+        ≡ located (located_lines (map (λ b. b.now) s.buffers.now)) };
 }
 
 impl<'b, 'a> Mailmaps<'b, 'a> {
@@ -158,17 +152,21 @@ impl<'b, 'a> Mailmaps<'b, 'a> {
     pub fn read(alloc: Global, buffers: &'b [&'a [u8]]) -> Result<Mailmaps<'b, 'a>, AllocError>
         ensures { IfOk result (λ mailmaps. mailmaps ≡ map (λ b. b.now) buffers.now) }
     {
-        Ok(Mailmaps {
-            buffers,
-            read: read_entries(alloc, buffers)?,
-        })
+        let mut entries = Vec::new(alloc);
+        for line in BufferLines::of(buffers) {
+            if let Some(entry) = entry_of(&line) {
+                let position = line.position;
+                entries.push(LocatedEntry { position, entry })?;
+            }
+        }
+        Ok(Mailmaps { buffers, entries })
     }
 
     /// The entries, in the order of their lines.
     pub(crate) fn entries(&self) -> &[LocatedEntry<'a>]
         ensures { map located_of result.now ≡ located (located_lines self.now) }
     {
-        &self.read.entries
+        &self.entries
     }
 }
 
@@ -178,31 +176,28 @@ impl<'b, 'a> Mailmaps<'b, 'a> {
 #[derive(Drop)]
 pub struct Verification<'m, 'a> {
     buffers: &'m [&'a [u8]],
-    read: &'m ReadEntries<'a>,
     effective: Effective<'m, 'a>,
 }
 
 impl<'m, 'a> Model for Verification<'m, 'a> {
-    ghost use Rattle.std.specs.Prelude.{◌≡◌, List, map};
+    ghost use Rattle.std.specs.Prelude.{List, map};
     ghost use Rattle.std.specs.List.{flat_map};
-    ghost use Rattle.mailmap_redundancy.specs.Redundancy.{IsSublist, entries, located_of};
+    ghost use Rattle.std.specs.List.Sorted.{IsStrictlySortedBy};
+    ghost use Rattle.mailmap_redundancy.specs.Redundancy.{entries, position_cmp};
     ghost use Rattle.mailmap_findings.specs.Findings.{Finding, findings};
-    ghost use Rattle.mailmap_findings.specs.Positions.{located_lines, located};
-    ghost use Rattle.mailmap_findings.specs.Clean.{are_clean};
+    ghost use Rattle.mailmap_findings.specs.Positions.{located_lines};
 
     ghost Value = { List Finding };
 
     ghost view = { λ s. flat_map (findings (entries s.effective.history) s.effective.kept)
         (located_lines (map (λ b. b.now) s.buffers.now)) };
 
-    ghost invariant = { λ s. let ls = located_lines (map (λ b. b.now) s.buffers.now) in
-        IsSublist s.effective.kept (located ls) × (map located_of s.read.now.entries.items ≡ located ls)
-        × (s.read.now.clean.items ≡ are_clean ls) };
+    ghost invariant = { λ s. IsStrictlySortedBy position_cmp (map (λ x. x.position) s.effective.kept) };
 }
 
 impl<'m, 'a> Verification<'m, 'a> {
     /// Finds out which entries have an effect. Allocates all the memory that the findings need.
-    #[tactic(auto, using(crate::proofs::Readings::items_accepted, crate::proofs::Verified::are_kept))]
+    #[tactic(auto, using(crate::proofs::Read::items_accepted, crate::proofs::Lines::kept_ascend))]
     pub fn new(
         alloc: Global,
         mailmaps: &'m Mailmaps<'_, 'a>,
@@ -211,8 +206,7 @@ impl<'m, 'a> Verification<'m, 'a> {
     {
         Ok(Verification {
             buffers: mailmaps.buffers,
-            read: &mailmaps.read,
-            effective: without_redundant(alloc, &mailmaps.read.entries)?,
+            effective: without_redundant(alloc, mailmaps.entries())?,
         })
     }
 
@@ -221,9 +215,13 @@ impl<'m, 'a> Verification<'m, 'a> {
         ensures { result ≡ self.now }
     {
         Findings {
-            lines: KnownLines::new(self.buffers, self.effective.kept(), self.read),
+            lines: BufferLines::of(self.buffers),
             effective: &self.effective,
-            of_line: LineFindings::none(),
+            of_line: LineFindings {
+                of_text: None,
+                of_git: None,
+                of_entry: None,
+            },
         }
     }
 }
@@ -233,22 +231,25 @@ impl<'m, 'a> Verification<'m, 'a> {
 /// Contracts see it as the list of the remaining findings.
 #[derive(Drop)]
 pub struct Findings<'v, 'a> {
-    lines: KnownLines<'v, 'a>,
+    lines: BufferLines<'v, 'a>,
     effective: &'v Effective<'v, 'a>,
     // the findings of the current line that are left
     of_line: LineFindings<'a>,
 }
 
 impl<'v, 'a> Model for Findings<'v, 'a> {
-    ghost use Rattle.std.specs.Prelude.{◌++◌, List};
+    ghost use Rattle.std.specs.Prelude.{◌++◌, List, map};
     ghost use Rattle.std.specs.List.{flat_map};
-    ghost use Rattle.mailmap_redundancy.specs.Redundancy.{entries};
-    ghost use Rattle.mailmap_findings.specs.Findings.{Finding, line_findings};
+    ghost use Rattle.std.specs.List.Sorted.{IsStrictlySortedBy};
+    ghost use Rattle.mailmap_redundancy.specs.Redundancy.{entries, position_cmp};
+    ghost use Rattle.mailmap_findings.specs.Findings.{Finding, findings};
 
     ghost Value = { List Finding };
 
     ghost view = { λ s. s.of_line
-        ++ flat_map (λ m. line_findings (entries s.effective.now.history) s.effective.now.kept m.1 m.0) s.lines };
+        ++ flat_map (findings (entries s.effective.now.history) s.effective.now.kept) s.lines };
+
+    ghost invariant = { λ s. IsStrictlySortedBy position_cmp (map (λ x. x.position) s.effective.now.kept) };
 }
 
 impl<'v, 'a> Iterator for Findings<'v, 'a> {
@@ -263,8 +264,8 @@ impl<'v, 'a> Iterator for Findings<'v, 'a> {
             if let Some(finding) = self.of_line.next() {
                 return Some(finding);
             }
-            let next = self.lines.next()?;
-            self.of_line = line_findings(self.effective, &next.line, next.is_kept, next.known);
+            let line = self.lines.next()?;
+            self.of_line = line_findings(self.effective, &line);
         }
     }
 }

@@ -19,17 +19,11 @@ pub cut-cut_at_closing : (s a b c : List ℕ) → IsCut s a b c → cut s ≡ Cl
 cut-cut_at_closing s a b c h = ap cut h.whole ∙ ap cut_at_opening (once-some 60 a (b ++ 62 ∷ c) h.no_opening) ∙ ap (cut_at_closing a) (once-some 62 b c h.no_closing)
 
 pub kind : (s : List ℕ) → Kind s
-kind s = ⊎_elim
-    (λ h. absent_kind h (cut-absent s h))
-    (λ h. ⊎_elim
-    (λ k.
+kind s = ⊎_elim (λ h. absent_kind h (cut-absent s h)) (λ h. ⊎_elim (λ k.
     let is : IsUnclosed s = record { before = h.0; after = h.1; whole = h.3; no_opening = h.2; no_closing = k } in
-    unclosed_kind is (cut-unclosed s is))
-    (λ k.
+    unclosed_kind is (cut-unclosed s is)) (λ k.
     let is : IsCut s h.0 k.0 k.1 = record { whole = h.3 ∙ ap (λ t. h.0 ++ 60 ∷ t) k.3; no_opening = h.2; no_closing = k.2 } in
-    closed_kind h.0 k.0 k.1 is (cut-cut_at_closing s h.0 k.0 k.1 is))
-    (once-cases 62 h.1))
-    (once-cases 60 s)
+    closed_kind h.0 k.0 k.1 is (cut-cut_at_closing s h.0 k.0 k.1 is)) (once-cases 62 h.1)) (once-cases 60 s)
 
 pub absent-cut : (s : List ℕ) → cut s ≡ Absent → HoldsNo 60 s
 absent-cut s e = elim (kind s) [ absent_kind h f ↦ h | unclosed_kind h f ↦ absurd (cc) | closed_kind a b c h f ↦ absurd (cc) ]

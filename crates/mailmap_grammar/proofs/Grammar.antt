@@ -13,20 +13,26 @@ contact-cut s name email rest h =
     let is_email : email ≡ trim h.between = trimmed-same _ _ h.is_email in
     ap trimmed_contact (cut-cut_at_closing _ _ _ _ h.is_cut) ∙ rw (← is_name, ← is_email) refl
 
--- each text has no `<`, no `>` after the first one, or a contact
-data ContactKind (s : Text) : Type 0 where
-  absent_contact : HoldsNo 60 s → trimmed_contact (cut s) ≡ Absent → ContactKind s
-  unclosed_contact : IsUnclosed s → trimmed_contact (cut s) ≡ Unclosed → ContactKind s
-  closed_contact : (name email rest : Text) → IsContact s name email rest → trimmed_contact (cut s) ≡ Closed name email rest → ContactKind s
+-- what a text begins with, by its contact
+abbrev Begins : Text → ParsedContact → Type 0
+Begins s Absent = HoldsNo 60 s
+Begins s Unclosed = IsUnclosed s
+Begins s (Closed name email rest) = IsContact s name email rest
 
-contact_kind : (s : Text) → ContactKind s
-contact_kind s = elim (kind s) [
-  | absent_kind h e ↦ absent_contact h (ap trimmed_contact e)
-  | unclosed_kind h e ↦ unclosed_contact h (ap trimmed_contact e)
-  | closed_kind a b c h e ↦ closed_contact (trim a) (trim b) c
-      (record { before = a; between = b; is_cut = h; is_name = trimmed-made a (trim a) refl; is_email = trimmed-made b (trim b) refl })
-      (ap trimmed_contact e)
-]
+begins : (s : Text) → Begins s (trimmed_contact (cut s))
+begins s =
+    let P : ParsedContact → Type 0 = λ k. Begins s (trimmed_contact k) in
+    elim (kind s) [
+      | absent_kind h e ↦ subst P (sym e) h
+      | unclosed_kind h e ↦ subst P (sym e) h
+      | closed_kind a b c h e ↦ subst P (sym e)
+          (record { before = a; between = b; is_cut = h; is_name = trimmed-made a (trim a) refl; is_email = trimmed-made b (trim b) refl })
+    ]
+
+cut-begins : (s : Text) (h : ParsedContact) → Begins s h → trimmed_contact (cut s) ≡ h
+cut-begins s Absent h = ap trimmed_contact (cut-absent s h)
+cut-begins s Unclosed h = ap trimmed_contact (cut-unclosed s h)
+cut-begins s (Closed name email rest) h = contact-cut s name email rest h
 
 no_contact : (s : Text) → NoContact s → (trimmed_contact (cut s) ≡ Absent) ⊎ (trimmed_contact (cut s) ≡ Unclosed)
 no_contact s h = ⊎_elim (λ a. inl (ap trimmed_contact (cut-absent s a))) (λ u. inr (ap trimmed_contact (cut-unclosed s u))) h
@@ -39,19 +45,12 @@ some b s e = cc
 pub both-closed : (n : ℕ) (t name email a b c : Text) → two_contacts n t name email (Closed a b c) ≡ Ok (by_both name email a b)
 both-closed n t name email a b c = grind arith
 
-second-none : (n : ℕ) (t name email rest : Text) → NoContact rest → (h : ParsedContact) → (h ≡ Absent) ⊎ (h ≡ Unclosed) → IsSecondRead n t name email rest (two_contacts n t name email h)
-second-none n t [] email rest none Absent is = neither none refl refl
-second-none n t [] email rest none Unclosed is = neither none refl refl
-second-none n t (x ∷ name) email rest none Absent is = name_alone none (some x name) refl
-second-none n t (x ∷ name) email rest none Unclosed is = name_alone none (some x name) refl
-second-none n t name email rest none (Closed a b c) is = absurd (⊎_elim (λ e. cc) (λ e. cc) is)
-
-second-made : (n : ℕ) (t name email rest : Text) → IsSecondRead n t name email rest (two_contacts n t name email (trimmed_contact (cut rest)))
-second-made n t name email rest = elim (contact_kind rest) [
-  | absent_contact h e ↦ second-none n t name email rest (inl h) (trimmed_contact (cut rest)) (inl e)
-  | unclosed_contact h e ↦ second-none n t name email rest (inr h) (trimmed_contact (cut rest)) (inr e)
-  | closed_contact a b c h e ↦ second a b c h (ap (two_contacts n t name email) e ∙ both-closed n t name email a b c)
-]
+second-made : (n : ℕ) (t name email rest : Text) (h : ParsedContact) → Begins rest h → IsSecondRead n t name email rest (two_contacts n t name email h)
+second-made n t [] email rest Absent none = neither (inl none) refl refl
+second-made n t [] email rest Unclosed none = neither (inr none) refl refl
+second-made n t (x ∷ name) email rest Absent none = name_alone (inl none) (some x name) refl
+second-made n t (x ∷ name) email rest Unclosed none = name_alone (inr none) (some x name) refl
+second-made n t name email rest (Closed a b c) contact = second a b c contact (both-closed n t name email a b c)
 
 pub alone-none : (n : ℕ) (t name email : Text) (h : ParsedContact) → (h ≡ Absent) ⊎ (h ≡ Unclosed) → name ≢ [] → two_contacts n t name email h ≡ Ok (by_name name email)
 alone-none n t name email h is other = grind arith
@@ -70,22 +69,16 @@ second-same n t name email rest r h = elim h [
 pub strict-other : (n : ℕ) (t name email rest : Text) (h : ParsedContact) → h ≢ Unclosed → strict_contacts n t name email rest h ≡ two_contacts n t name email h
 strict-other n t name email rest h other = grind arith
 
-not_unclosed : (s : Text) → trimmed_contact (cut s) ≢ Unclosed → IsUnclosed s → ⊥
-not_unclosed s other h = other (ap trimmed_contact (cut-unclosed s h))
-
 untrimmed : (h : ParsedContact) → trimmed_contact h ≡ Unclosed → h ≡ Unclosed
 untrimmed h e = grind arith
 
-strict-second-made : (n : ℕ) (t name email rest : Text) → IsSecondReadStrictly n t name email rest (strict_contacts n t name email rest (trimmed_contact (cut rest)))
-strict-second-made n t name email rest = elim (contact_kind rest) [
-  | absent_contact h e ↦
-      let other : trimmed_contact (cut rest) ≢ Unclosed = λ u. let w : Absent ≡ Unclosed = sym e ∙ u in absurd (cc) in
-      as_lenient (not_unclosed rest other) (subst (IsSecondRead n t name email rest) (sym (strict-other n t name email rest _ other)) (second-made n t name email rest))
-  | unclosed_contact h e ↦ open_second h (ap (strict_contacts n t name email rest) e)
-  | closed_contact a b c h e ↦
-      let other : trimmed_contact (cut rest) ≢ Unclosed = λ u. let w : Closed a b c ≡ Unclosed = sym e ∙ u in absurd (cc) in
-      as_lenient (not_unclosed rest other) (subst (IsSecondRead n t name email rest) (sym (strict-other n t name email rest _ other)) (second-made n t name email rest))
-]
+strict-second-made : (n : ℕ) (t name email rest : Text) (h : ParsedContact) → Begins rest h → IsSecondReadStrictly n t name email rest (strict_contacts n t name email rest h)
+strict-second-made n t name email rest Absent h =
+    as_lenient (λ u. let w : Absent ≡ Unclosed = sym (cut-begins rest Absent h) ∙ cut-begins rest Unclosed u in absurd (cc)) (second-made n t name email rest Absent h)
+strict-second-made n t name email rest Unclosed h = open_second h refl
+strict-second-made n t name email rest (Closed a b c) h =
+    let other = λ (u : IsUnclosed rest). let w : Closed a b c ≡ Unclosed = sym (contact-cut rest a b c h) ∙ cut-begins rest Unclosed u in absurd (cc) in
+    as_lenient other (second-made n t name email rest (Closed a b c) h)
 
 strict-second-same : (n : ℕ) (t name email rest : Text) (r : Reading) → IsSecondReadStrictly n t name email rest r → strict_contacts n t name email rest (trimmed_contact (cut rest)) ≡ r
 strict-second-same n t name email rest r h = elim h [
@@ -99,18 +92,11 @@ pub with_email : (both : Text → Text → Text → Reading) (n : ℕ) (t name e
 with_email both n t name email rest other = grind arith
 
 module _ (both : Text → Text → Text → Reading) (Second : Text → Text → Text → Reading → Type 0) (n : ℕ) (t : Text) where
-  first-closed : ((name email rest : Text) → Second name email rest (both name email rest)) → (name email rest : Text) → IsContact t name email rest → IsFirstRead Second n t (first_contact both n t (Closed name email rest))
-  first-closed made name [] rest h = blank_email name rest h refl
-  first-closed made name (x ∷ email) rest h = first name (x ∷ email) rest h (some x email) (made name (x ∷ email) rest)
-
-  first-made : ((name email rest : Text) → Second name email rest (both name email rest)) → IsFirstRead Second n t (first_contact both n t (trimmed_contact (cut t)))
-  first-made made =
-      let P : ParsedContact → Type 0 = λ h. IsFirstRead Second n t (first_contact both n t h) in
-      elim (contact_kind t) [
-        | absent_contact h e ↦ subst P (sym e) (no_bracket h refl)
-        | unclosed_contact h e ↦ subst P (sym e) (open_first h refl)
-        | closed_contact a b c h e ↦ subst P (sym e) (first-closed made a b c h)
-      ]
+  first-made : ((name email rest : Text) → Second name email rest (both name email rest)) → (h : ParsedContact) → Begins t h → IsFirstRead Second n t (first_contact both n t h)
+  first-made made Absent h = no_bracket h refl
+  first-made made Unclosed h = open_first h refl
+  first-made made (Closed name [] rest) h = blank_email name rest h refl
+  first-made made (Closed name (x ∷ email) rest) h = first name (x ∷ email) rest h (some x email) (made name (x ∷ email) rest)
 
   first-same : ((name email rest : Text) (r : Reading) → Second name email rest r → both name email rest ≡ r) → (r : Reading) → IsFirstRead Second n t r → first_contact both n t (trimmed_contact (cut t)) ≡ r
   first-same same r h = elim h [
@@ -140,9 +126,7 @@ module _ (says : ℕ → Text → Reading) (Says : Text → Reading → Type 0) 
   line-made : ((t : Text) → Says t (says n t)) → (o : Option Reading) → reading_by says n line ≡ o → IsReadBy Says line o
   line-made made o e =
       let P : Option Reading → Type 0 = IsReadBy Says line in
-      ⊎_elim
-      (λ yes. comment (commented line yes) (sym e ∙ cond-true _ _ _ yes))
-      (λ not.
+      ⊎_elim (λ yes. comment (commented line yes) (sym e ∙ cond-true _ _ _ yes)) (λ not.
       let none : IsComment line → ⊥ = λ h. let w : true ≡ false = sym (comment-test line h) ∙ not in absurd (cc) in
       subst P (sym (cond-false _ _ _ not) ∙ e) (line-none made none (trim line) (trimmed-made line (trim line) refl)))
       (cases_Bool (is_comment line))
@@ -158,13 +142,17 @@ module _ (says : ℕ → Text → Reading) (Says : Text → Reading → Type 0) 
   ]
 
 pub reading-made : (n : ℕ) (line : Text) (o : Option Reading) → reading n line ≡ o → IsRead n line o
-reading-made n line o = line-made line_reading _ n line (λ t. first-made _ (IsSecondRead n t) n t (λ name email rest. second-made n t name email rest)) o
+reading-made n line o =
+    let second = λ (t name email rest : Text). second-made n t name email rest (trimmed_contact (cut rest)) (begins rest) in
+    line-made line_reading _ n line (λ t. first-made _ (IsSecondRead n t) n t (second t) (trimmed_contact (cut t)) (begins t)) o
 
 pub reading-same : (n : ℕ) (line : Text) (o : Option Reading) → IsRead n line o → reading n line ≡ o
 reading-same n line o = line-same line_reading _ n line (λ t r. first-same _ (IsSecondRead n t) n t (λ name email rest r. second-same n t name email rest r) r) o
 
 pub strict_reading-made : (n : ℕ) (line : Text) (o : Option Reading) → strict_reading n line ≡ o → IsReadStrictly n line o
-strict_reading-made n line o = line-made strict_line_reading _ n line (λ t. first-made _ (IsSecondReadStrictly n t) n t (λ name email rest. strict-second-made n t name email rest)) o
+strict_reading-made n line o =
+    let second = λ (t name email rest : Text). strict-second-made n t name email rest (trimmed_contact (cut rest)) (begins rest) in
+    line-made strict_line_reading _ n line (λ t. first-made _ (IsSecondReadStrictly n t) n t (second t) (trimmed_contact (cut t)) (begins t)) o
 
 pub strict_reading-same : (n : ℕ) (line : Text) (o : Option Reading) → IsReadStrictly n line o → strict_reading n line ≡ o
 strict_reading-same n line o = line-same strict_line_reading _ n line (λ t r. first-same _ (IsSecondReadStrictly n t) n t (λ name email rest r. strict-second-same n t name email rest r) r) o

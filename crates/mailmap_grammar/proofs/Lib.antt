@@ -1,7 +1,5 @@
 pub mod Cut
-pub mod NearFeeds
 pub mod Grammar
-pub mod Pieces
 pub mod Plain
 pub mod Readings
 pub mod FaultLines

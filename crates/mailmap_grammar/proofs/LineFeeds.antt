@@ -24,10 +24,9 @@ pub pieces-with_line_feeds : (ls : List Text) (rest : Text) → AllByRecursion (
 pieces-with_line_feeds [] rest h = refl
 pieces-with_line_feeds (l ∷ ls) rest h =
     ap pieces (append_assoc (l ++ 10 ∷ []) (with_line_feeds ls) rest ∙ append_assoc l (10 ∷ []) (with_line_feeds ls ++ rest))
-    ∙ pieces-line l (with_line_feeds ls ++ rest) h.0
-    ∙ ap (λ ps. l ∷ ps) (pieces-with_line_feeds ls rest h.1)
+    ∙ pieces-line l (with_line_feeds ls ++ rest) h.0 ∙ ap (λ ps. l ∷ ps) (pieces-with_line_feeds ls rest h.1)
 
-pieces-nil : pieces [] ≡ []
+pub pieces-nil : pieces [] ≡ []
 unfolding pieces
 pieces-nil = refl
 
@@ -49,8 +48,7 @@ pieces-are s ls are = ⊎_elim
 more : (line s : Text) (ls : List Text) → HoldsNo 10 line → ArePieces s ls → ArePieces (line ++ 10 ∷ s) (line ∷ ls)
 more line s ls held are = record {
   no_feed = (held, are.no_feed);
-  whole = ⊎_elim
-      (λ e. inl (cc (append_assoc line (10 ∷ []) (with_line_feeds ls))))
+  whole = ⊎_elim (λ e. inl (cc (append_assoc line (10 ∷ []) (with_line_feeds ls))))
       (λ w. inr (line ∷ w.0, w.1, ap (λ l. line ∷ l) w.2, w.3, cc (w.4, append_assoc (line ++ 10 ∷ []) (with_line_feeds w.0) w.1, append_assoc line (10 ∷ []) (with_line_feeds w.0 ++ w.1))))
       are.whole;
 }
@@ -71,3 +69,12 @@ are_pieces s ls e = subst (ArePieces s) e (pieces-made (length s) s (omega arith
 -- no piece contains a line feed
 pub pieces-hold_no : (s : List ℕ) → AllByRecursion (HoldsNo 10) (pieces s)
 pieces-hold_no s = (are_pieces s (pieces s) refl).no_feed
+
+length-with_first : (b : ℕ) (ps : List Text) → length (with_first b ps) ≤ suc (length ps)
+length-with_first b ps = grind arith
+
+-- there are no more lines than bytes
+pub length-pieces : (s : Text) → length (pieces s) ≤ length s
+unfolding pieces
+length-pieces [] = omega arith
+length-pieces (b ∷ s) = grind (arith, length-with_first b (pieces s), length-pieces s)

@@ -1,7 +1,8 @@
 -- The readings of a list of lines, and the mappings among them, from the first one and the others.
 use Rattle.std.proofs.Common.{◌≡◌, ◌+◌, ℕ, Some, Option, None, option_to_list, List, [], ◌∷◌, ◌++◌, refl, sym, ap, ◌∙◌, ◌≤◌, Result, Ok, Err, length, arith}
 use Rattle.mailmap_entries.specs.Folding.{Text}
-use Rattle.mailmap_grammar.specs.Lines.{Reading, readings_from, reading_of, mappings_in}
+use Rattle.mailmap_grammar.proofs.LineFeeds.{pieces-nil}
+use Rattle.mailmap_grammar.specs.Lines.{Reading, Skips, pieces, reading_by, readings_from, reading_of, mappings_in}
 use Rattle.mailmap_entries.specs.declared.entry.Entry.{Entry}
 use Rattle.mailmap_grammar.specs.declared.lines.Error.{Error}
 use Rattle.mailmap_entries.specs.Entries.{Mapping, mapping_of}
@@ -18,9 +19,17 @@ module _ (read : ℕ → Text → Option Reading) (n : ℕ) (said : List Reading
   pub readings_from-none : None ≡ read n l → readings_from read (n + 1) rest ≡ said
   readings_from-none is = sym (split ∙ ap (λ o. option_to_list o ++ readings_from read (n + 1) rest) (sym is))
 
-pub readings_from-nil : (read : ℕ → Text → Option Reading) (n : ℕ) → readings_from read n [] ≡ []
+-- without bytes there are no readings
+pub nothing_left : (read : ℕ → Text → Option Reading) (n : ℕ) (said : List Reading) (bytes : Text) → readings_from read n (pieces bytes) ≡ said → bytes ≡ [] → said ≡ []
 unfolding readings_from
-readings_from-nil read n = refl
+nothing_left read n said bytes whole none = sym whole ∙ ap (λ s. readings_from read n (pieces s)) none ∙ ap (readings_from read n) pieces-nil
+
+-- the readings of what comes after lines that are skipped
+pub after_skipped : {bytes rest : Text} {count : ℕ} (parse : ℕ → Text → Reading) (number : ℕ) (said : List Reading) → Skips bytes rest count
+    → readings_from (reading_by parse) (number + 1) (pieces bytes) ≡ said → readings_from (reading_by parse) (number + (count + 1)) (pieces rest) ≡ said
+after_skipped {rest = rest} {count = count} parse number said skipped is =
+    let line : number + (count + 1) ≡ number + 1 + count = omega arith in
+    ap (λ n. readings_from (reading_by parse) n (pieces rest)) line ∙ sym (skipped.none_read parse (number + 1)) ∙ is
 
 module _ (said : List Mapping) (rs rest : List Reading) (x : Result Entry Error) (whole : mappings_in rs ≡ said) (first : rs ≡ reading_of x ∷ rest) where
   split_mappings : said ≡ option_to_list (result_ok (reading_of x)) ++ mappings_in rest

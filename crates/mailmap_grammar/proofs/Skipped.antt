@@ -1,43 +1,30 @@
 -- Comments and blank lines that are skipped.
-use Rattle.std.proofs.Common.{◌≡◌, ◌≢◌, ◌+◌, ◌<◌, ◌≤◌, ℕ, zero, suc, true, Some, None, List, [], ◌∷◌, ◌++◌, length, length-append, take, drop, map, slice_index, refl, sym, ap, subst, ◌∙◌, arith, ⊎_elim}
+use Rattle.std.proofs.Common.{◌≡◌, ◌≢◌, ◌+◌, ◌<◌, ◌≤◌, ℕ, zero, suc, true, Some, None, option_to_list, List, [], ◌∷◌, ◌++◌, length, length-append, take, drop, slice_index, refl, sym, ap, subst, ◌∙◌, arith, ⊎_elim}
 use Rattle.std.proofs.lemmas.Bool.{cases_lt, cond-true, eq-eqb, eqb-true}
-use Rattle.std.proofs.lemmas.Str.{encode_ascii}
 use Rattle.std.specs.Char.{is_whitespace}
 use Rattle.bstr.specs.Find.{IsFirstByte, is_byte}
-use Rattle.bstr.specs.Text.{lines_of, no_cr, without_terminator}
 use Rattle.mailmap_entries.specs.Folding.{Text}
-use Rattle.mailmap_grammar.specs.Lines.{Reading, reading_by, readings_from, unless_blank}
+use Rattle.mailmap_grammar.specs.Lines.{Reading, Skips, pieces, reading_by, readings_from, unless_blank}
 use Rattle.mailmap_grammar.specs.Trimming.{trim}
-use Rattle.mailmap_grammar.proofs.Pieces.{lines_of-line, without_terminator-ended, reading-no_cr, reading_by-cr}
+use Rattle.mailmap_grammar.proofs.LineFeeds.{pieces-line}
 use Rattle.mailmap_grammar.proofs.SplitOnce.{held_before, split_at}
-use Rattle.mailmap_grammar.proofs.Plain.{last_at, plain_nil, white-last}
-use Rattle.mailmap_grammar.proofs.Readings.{readings_from-none}
-
-abbrev pub given : List ℕ → List Text
-given bs = map without_terminator (lines_of bs)
-
--- the lines before `rest` say nothing, and there are `count` of them
-pub record HasSkipped (whole rest : List ℕ) (count : ℕ) : Type 0 where
-  pub within : count + length rest ≤ length whole
-  pub counted : count + length (given rest) ≡ length (given whole)
-  pub none_read : (says : ℕ → Text → Reading) (n : ℕ) → readings_from (reading_by says) n (given whole) ≡ readings_from (reading_by says) (n + count) (given rest)
+use Rattle.mailmap_grammar.proofs.Plain.{last_at, plain_nil, trim-ascii_end}
 
 -- one more line that says nothing, up to its line feed
-pub one_skipped : (whole rest next : List ℕ) (count feed : ℕ) → HasSkipped whole rest count → IsFirstByte (is_byte 10) rest (Some feed)
-    → ((says : ℕ → Text → Reading) (n : ℕ) → reading_by says n (take feed rest) ≡ None) → next ≡ drop (feed + 1) rest → HasSkipped whole next (count + 1)
-one_skipped whole rest next count feed h first none is =
+pub one_skipped : (bytes rest next : List ℕ) (count feed : ℕ) → Skips bytes rest count → IsFirstByte (is_byte 10) rest (Some feed)
+    → ((says : ℕ → Text → Reading) (n : ℕ) → reading_by says n (take feed rest) ≡ None) → next ≡ drop (feed + 1) rest → Skips bytes next (count + 1)
+unfolding readings_from
+one_skipped bytes rest next count feed h first none is =
     let line = take feed rest in
     let whole : rest ≡ line ++ 10 ∷ next = split_at 10 rest feed first ∙ ap (λ r. line ++ 10 ∷ r) (sym is) in
-    let lines_are : given rest ≡ no_cr line ∷ given next =
-    ap given whole ∙ ap (map without_terminator) (lines_of-line line next (held_before 10 rest feed first)) ∙ ap (λ l. l ∷ given next) (without_terminator-ended line) in
+    let lines_are : pieces rest ≡ line ∷ pieces next = ap pieces whole ∙ pieces-line line next (held_before 10 rest feed first) in
     record {
       within = omega (arith, h.within, ap length whole, length-append line (10 ∷ next));
-      counted = omega (arith, h.counted, ap length lines_are);
       none_read = λ says n.
           let read = reading_by says in
-          let nothing : None ≡ read (n + count) (no_cr line) = sym (reading-no_cr read (reading_by-cr says) (n + count) line ∙ none says (n + count)) in
-          h.none_read says n ∙ sym (readings_from-none read (n + count) _ (given rest) (given next) (no_cr line) refl lines_are nothing)
-          ∙ ap (λ k. readings_from read k (given next)) (omega arith);
+          h.none_read says n ∙ ap (readings_from read (n + count)) lines_are
+          ∙ ap (λ o. option_to_list o ++ readings_from read (n + count + 1) (pieces next)) (none says (n + count))
+          ∙ ap (λ k. readings_from read k (pieces next)) (omega arith);
     }
 
 -- a line that begins with `#` says nothing
@@ -66,5 +53,5 @@ one_blank bs end h lt other white small =
     record {
       within = omega arith;
       no_feed = λ k l. ⊎_elim (λ before. h.no_feed k before) (λ after. let e : k ≡ end = omega arith in subst (λ j. slice_index bs j ≢ 10) (sym e) other) (cases_lt k end);
-      blank = sym (white-last b (b ∷ []) (take (end + 1) bs) (take end bs) white (encode_ascii b small) (last_at bs end (end + 1) b lt refl refl)) ∙ h.blank;
+      blank = ap trim (last_at bs end (end + 1) b lt refl refl) ∙ trim-ascii_end b (take end bs) white small ∙ h.blank;
     }

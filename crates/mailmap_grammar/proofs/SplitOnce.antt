@@ -19,13 +19,8 @@ module _ (x : ℕ) where
 
   pub once-cases : (s : List ℕ) → HoldsNo x s ⊎ ((a : List ℕ) × (r : List ℕ) × HoldsNo x a × (s ≡ a ++ x ∷ r))
   once-cases [] = inl tt
-  once-cases (y ∷ s) = ⊎_elim
-      (λ same. inr ([], s, tt, ap (λ z. z ∷ s) same))
-      (λ other. ⊎_elim
-      (λ h. inl (other, h))
-      (λ h. inr (y ∷ h.0, h.1, (other, h.2), ap (λ t. y ∷ t) h.3))
-      (once-cases s))
-      (cases_eq y x)
+  once-cases (y ∷ s) = ⊎_elim (λ same. inr ([], s, tt, ap (λ z. z ∷ s) same)) (λ other. ⊎_elim (λ h. inl (other, h))
+      (λ h. inr (y ∷ h.0, h.1, (other, h.2), ap (λ t. y ∷ t) h.3)) (once-cases s)) (cases_eq y x)
 
   -- ---- by indices
 

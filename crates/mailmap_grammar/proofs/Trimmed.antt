@@ -52,12 +52,9 @@ end-other = trims.end-other is_whitespace white-scalar refl
 -- ---- trimming removes the longest run
 
 start-cases : (bs : List ℕ) → BeginsWhite bs ⊎ (BeginsWhite bs → ⊥)
-start-cases bs = ⊎_elim
-    (λ yes. inl (begins bs (decoded bs).char refl yes))
-    (λ no. inr (λ h.
+start-cases bs = ⊎_elim (λ yes. inl (begins bs (decoded bs).char refl yes)) (λ no. inr (λ h.
     let e : or_replacement (decoded bs).char ≡ h.0 = ap (λ (p : Decoded). or_replacement p.char) (ap decoded h.3 ∙ reads h.0 h.1 h.2) in
-    false≢true (sym no ∙ ap is_whitespace e ∙ h.2)))
-    (cases_Bool (is_whitespace (or_replacement (decoded bs).char)))
+    false≢true (sym no ∙ ap is_whitespace e ∙ h.2))) (cases_Bool (is_whitespace (or_replacement (decoded bs).char)))
 
 start-blank : (cs m : List ℕ) → AreWhite cs → trim_start_by is_whitespace (encode_utf8_all cs ++ m) ≡ trim_start_by is_whitespace m
 start-blank [] m all = refl
@@ -92,8 +89,7 @@ no-white-end s same h =
 
 start-made : (f : ℕ) (s : List ℕ) → length s ≤ f → (left : List ℕ) × IsTrimmedStart s left
 start-made zero s le = stays s (no-white s le)
-start-made (suc f) s le = ⊎_elim
-    (λ h.
+start-made (suc f) s le = ⊎_elim (λ h.
     let shorter : length h.1 ≤ f = omega (arith, some_bytes h.0, length-append (encode_utf8 h.0) h.1, ap length h.3) in
     let inner = start-made f h.1 shorter in
     let made = inner.1 in (
@@ -104,14 +100,11 @@ start-made (suc f) s le = ⊎_elim
         whole = h.3 ∙ ap (λ r. encode_utf8 h.0 ++ r) made.whole ∙ sym (append_assoc (encode_utf8 h.0) (encode_utf8_all made.white) inner.0);
         longest = made.longest;
       },
-    ))
-    (stays s)
-    (start-cases s)
+    )) (stays s) (start-cases s)
 
 end-made : (f : ℕ) (s : List ℕ) → length s ≤ f → (left : List ℕ) × IsTrimmedEnd s left
 end-made zero s le = stays-end s (λ h. omega (arith, some_bytes h.0, length-append h.1 (encode_utf8 h.0), ap length h.3))
-end-made (suc f) s le = ⊎_elim
-    (λ h.
+end-made (suc f) s le = ⊎_elim (λ h.
     let shorter : length h.1 ≤ f = omega (arith, some_bytes h.0, length-append h.1 (encode_utf8 h.0), ap length h.3) in
     let inner = end-made f h.1 shorter in
     let made = inner.1 in (
@@ -123,9 +116,7 @@ end-made (suc f) s le = ⊎_elim
             ∙ ap (λ r. inner.0 ++ r) (ap (λ r. encode_utf8_all made.white ++ r) (sym (append-nil (encode_utf8 h.0))) ∙ sym (encodes-append made.white (h.0 ∷ [])));
         longest = made.longest;
       },
-    ))
-    (λ same. stays-end s (no-white-end s same))
-    (end-cases s)
+    )) (λ same. stays-end s (no-white-end s same)) (end-cases s)
 
 pub trimmed-same : (s t : List ℕ) → IsTrimmed s t → t ≡ trim s
 unfolding trim
@@ -203,8 +194,7 @@ TrimsBefore t s = (trim_start_by is_whitespace (s ++ t) ≡ trim_start_by is_whi
 start-before : (f : ℕ) (s t : List ℕ) → StartsClean t → length s ≤ f → TrimsBefore t s
 start-before f [] t clean le = inr (refl, start-nil)
 start-before zero (b ∷ s) t clean le = absurd (omega arith)
-start-before (suc f) (b ∷ s) t clean le = ⊎_elim
-    (λ h.
+start-before (suc f) (b ∷ s) t clean le = ⊎_elim (λ h.
     let shorter : length h.1 ≤ f = omega (arith, some_bytes h.0, length-append (encode_utf8 h.0) h.1, ap length h.3) in
     subst (TrimsBefore t) (sym h.3)
     (rw (append_assoc (encode_utf8 h.0) h.1 t, start-white h.0 (h.1 ++ t) h.2, start-white h.0 h.1 h.2) (start-before f h.1 t clean shorter)))

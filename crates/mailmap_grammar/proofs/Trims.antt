@@ -85,13 +85,10 @@ module _ (t : ℕ → Bool) (scalars : (c : ℕ) → t c ≡ true → scalar c �
   pub clean : (c : ℕ) → t c ≡ true → StartsClean (encode_utf8 c)
   clean c passes some =
       let bs = encode_utf8 c in
-      ⊎_elim
-      (λ yes.
+      ⊎_elim (λ yes.
       let alone : decoded bs ≡ bad 1 = continuation-alone (length bs) (slice_index bs 0) (slice_index bs 1) (slice_index bs 2) (slice_index bs 3) some yes in
       let none : None ≡ Some c = ap (λ (p : Decoded). p.char) (sym alone ∙ encoded c passes) in
-      absurd (cc))
-      (λ no. no)
-      (cases_Bool (continues (slice_index bs 0)))
+      absurd (cc)) (λ no. no) (cases_Bool (continues (slice_index bs 0)))
 
   pieces-encoded : (c : ℕ) → t c ≡ true → pieces (encode_utf8 c) ≡ good c (length (encode_utf8 c)) ∷ []
   pieces-encoded c passes =
@@ -134,8 +131,7 @@ module _ (t : ℕ → Bool) (scalars : (c : ℕ) → t c ≡ true → scalar c �
       let long : length bs ≡ length front + k = length-append front (encode_utf8 c) in
       let short : n ≡ length front = omega arith in
       let whole : take n bs ≡ front = ap (λ i. take i bs) short ∙ take-append_seam front (encode_utf8 c) in
-      let kept : kept_end t 0 (spans_from 0 (pieces bs)) ≡ kept_end t 0 (spans_from 0 (pieces front)) =
-      cc (
+      let kept : kept_end t 0 (spans_from 0 (pieces bs)) ≡ kept_end t 0 (spans_from 0 (pieces front)) = cc (
         spans-last bs (good c k) 0 (last front c passes),
         kept_end-snoc t 0 (spans_from 0 (pieces (take n bs))) (0 + n, 0 + n + k, c),
         cond-true _ (kept_end t 0 (spans_from 0 (pieces (take n bs)))) (0 + n + k) passes,
@@ -167,25 +163,18 @@ module _ (t : ℕ → Bool) (scalars : (c : ℕ) → t c ≡ true → scalar c �
       let rest = drop p.size bs in
       let next = cond test end (off + p.size) in
       let step : kept_end t end (spans_from off (pieces bs)) ≡ kept_end t next (spans_from (off + p.size) (pieces rest)) = ap (kept_end t end) (spans-first bs off some) in
-      ⊎_elim
-      (λ more.
-      ⊎_elim
-      (λ h. inl (ends-more bs p.size h))
+      ⊎_elim (λ more. ⊎_elim (λ h. inl (ends-more bs p.size h))
       (λ e. let sum : off + p.size + length rest ≡ off + length bs = omega arith in inr (step ∙ e ∙ sum))
-      (end-kept f rest (off + p.size) next (omega arith) (omega arith)))
-      (λ all.
+      (end-kept f rest (off + p.size) next (omega arith) (omega arith))) (λ all.
       let none : rest ≡ [] = drop_all p.size bs all in
       let sum : off + p.size ≡ off + length bs = omega arith in
-      ⊎_elim
-      (λ yes. inl (ends bs p.char refl yes none))
+      ⊎_elim (λ yes. inl (ends bs p.char refl yes none))
       (λ no. inr (step ∙ ap (λ r. kept_end t next (spans_from (off + p.size) (pieces r))) none ∙ ap (kept_end t next) (spans-nil [] (off + p.size) refl) ∙ cond-false _ _ _ no ∙ sum))
-      (cases_Bool test))
-      (cases_lt p.size (length bs))
+      (cases_Bool test)) (cases_lt p.size (length bs))
 
   pub end-cases : (bs : List ℕ) → EndsBy t bs ⊎ (trim_end_by t bs ≡ bs)
   end-cases [] = inr (ap (λ n. take n []) (ap (kept_end t 0) (spans-nil [] 0 refl) ∙ kept_end-nil t 0))
-  end-cases (b ∷ s) = ⊎_elim inl
-      (λ e. inr (take_all _ (b ∷ s) (omega arith)))
+  end-cases (b ∷ s) = ⊎_elim inl (λ e. inr (take_all _ (b ∷ s) (omega arith)))
       (end-kept (length (b ∷ s)) (b ∷ s) 0 0 (omega arith) (omega arith))
 
   pub end-other : (bs : List ℕ) → (EndsBy t bs → ⊥) → trim_end_by t bs ≡ bs

@@ -1,8 +1,8 @@
 -- How the lines of a mailmap are parsed.
 use Rattle.std.specs.List.{AllByRecursion, flat_map}
 use Rattle.std.specs.Result.{result_ok}
-use Rattle.std.specs.Prelude.{◌≡◌, ◌≢◌, ◌⊎◌, ◌+◌, ◌==◌, ℕ, if◌then◌else◌, Bool, false, Option, Some, None, option_map}
-use Rattle.std.specs.Prelude.{option_to_list, Result, Ok, Err, List, [], ◌∷◌, ◌++◌}
+use Rattle.std.specs.Prelude.{◌≡◌, ◌≢◌, ◌⊎◌, ◌+◌, ◌≤◌, ◌==◌, ℕ, if◌then◌else◌, Bool, false, Option, Some, None, option_map}
+use Rattle.std.specs.Prelude.{option_to_list, Result, Ok, Err, List, [], ◌∷◌, ◌++◌, length}
 use Rattle.mailmap_entries.specs.declared.entry.Entry.{Entry}
 use Rattle.mailmap_grammar.specs.declared.lines.Error.{Error}
 use Rattle.mailmap_grammar.specs.declared.lines.Error.TheVariants.{NoEmail, MissingClosingBracket, EmptyEmail}
@@ -196,6 +196,12 @@ unfoldable pub pieces : Text → List Text
 pieces [] = []
 pieces (b ∷ s) = if b == 10 then [] ∷ pieces s else with_first b (pieces s)
 
+-- these bytes begin with `count` lines that are comments or blank, and the rest comes after them
+pub record Skips (bytes rest : Text) (count : ℕ) : Type 0 where
+  pub within : count + length rest ≤ length bytes
+  pub none_read : (parse : ℕ → Text → Reading) (n : ℕ) → readings_from (reading_by parse) n (pieces bytes)
+      ≡ readings_from (reading_by parse) (n + count) (pieces rest)
+
 -- lines, each followed by a line feed
 abbrev pub with_line_feeds : List Text → Text
 with_line_feeds ls = flat_map (λ l. l ++ 10 ∷ []) ls
@@ -224,8 +230,7 @@ HoldsNo b = AllByRecursion (λ x. x ≢ b)
 -- is not empty, needs no line feed
 pub record ArePieces (s : Text) (ls : List Text) : Type 0 where
   pub no_feed : AllByRecursion (HoldsNo 10) ls
-  pub whole : (s ≡ with_line_feeds ls)
-      ⊎ ((front : List Text) × (last : Text) × (ls ≡ front ++ last ∷ []) × (last ≢ [])
+  pub whole : (s ≡ with_line_feeds ls) ⊎ ((front : List Text) × (last : Text) × (ls ≡ front ++ last ∷ []) × (last ≢ [])
       × (s ≡ with_line_feeds front ++ last))
 
 -- s is a, `<`, b, `>` and c, where the `<` is the first one, and the `>` the first one after it

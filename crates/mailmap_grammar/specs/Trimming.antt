@@ -1,5 +1,5 @@
 -- Texts without the white space at their ends, as Unicode defines white space, in UTF-8.
-use Rattle.std.specs.Prelude.{◌≡◌, ◌⊎◌, ◌<◌, ◌≤◌, ℕ, true, List, ◌++◌}
+use Rattle.std.specs.Prelude.{◌≡◌, ℕ, true, List, ◌++◌}
 use Rattle.std.specs.List.{AllByRecursion}
 use Rattle.std.specs.Char.{is_whitespace, encode_utf8}
 use Rattle.std.specs.Str.{encode_utf8_all}
@@ -38,7 +38,3 @@ pub record IsTrimmedEnd (s left : Text) : Type 0 where
 -- t is s trimmed: first at the start, then at the end of what is left
 abbrev pub IsTrimmed : Text → Text → Type 0
 IsTrimmed s t = (left : Text) × IsTrimmedStart s left × IsTrimmedEnd left t
-
--- no white space begins with this byte
-abbrev pub IsVisibleLead : ℕ → Type 0
-IsVisibleLead b = ((32 < b) × (b < 128)) ⊎ (((195 ≤ b) × (b < 225)) ⊎ (228 ≤ b))

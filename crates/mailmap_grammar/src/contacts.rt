@@ -1,9 +1,13 @@
 //! Splits a text into a contact: a name, and an email in brackets.
-ghost use Rattle.std.specs.Prelude.{◌≡◌, ◌<◌, ◌↔◌, IsTrue};
-ghost use Rattle.mailmap_grammar.specs.Lines.{contact_in, cut, parsed_contact_of, trimmed_contact};
-ghost use Rattle.mailmap_grammar.specs.Trimming.{trim as spec_trim, IsVisibleLead};
+ghost use Rattle.std.specs.Prelude.{◌≡◌, ◌<◌, ◌↔◌, IsTrue, true};
+ghost use Rattle.std.specs.Char.{is_whitespace};
+ghost use Rattle.std.specs.Option.{option_copied};
+ghost use Rattle.mailmap_entries.specs.Entries.{mapping_of};
+ghost use Rattle.mailmap_grammar.specs.Lines.{by_both, contact_in, cut, non_empty as spec_non_empty, parsed_contact_of, trimmed_contact};
+ghost use Rattle.mailmap_grammar.specs.Trimming.{trim as spec_trim};
 
 use bstr::ByteSlice;
+use mailmap_entries::Entry;
 
 /// The contact at the start of a text. Its email is between the first `<` and the first `>` after it.
 #[derive(Clone, Copy)]
@@ -52,24 +56,25 @@ pub fn parse_name_and_email(text: &[u8]) -> ParsedContact<'_>
 
 /// The text without the Unicode white space at its ends. Bytes that aren't valid UTF-8 stay.
 #[inline]
+#[tactic(auto, unfolding(crate::specs::Trimming::trim))]
 pub fn trim(text: &[u8]) -> &[u8]
     ensures { result.now ≡ spec_trim text.now }
 {
-    // Past the spaces, the first and the last byte of most texts already show that no white space is left.
-    let inner = trim_end_spaces(trim_start_spaces(text));
+    // Past the white space of ASCII, the first and the last byte of most texts already show that none is left.
+    let inner = trim_end_blanks(trim_start_blanks(text));
     if is_plain(inner) {
         return inner;
     }
-    trim_end_ideographic_spaces(trim_start_ideographic_spaces(inner)).trim()
+    inner.trim()
 }
 
 #[inline(always)]
 #[tactic(auto, using(crate::proofs::Plain::first_blank))]
-fn trim_start_spaces(text: &[u8]) -> &[u8]
+fn trim_start_blanks(text: &[u8]) -> &[u8]
     ensures { spec_trim result.now ≡ spec_trim text.now }
 {
     let mut start = 0;
-    while start < text.len() && text[start] == b' ' {
+    while start < text.len() && is_blank(text[start]) {
         start += 1;
     }
     &text[start..]
@@ -77,46 +82,22 @@ fn trim_start_spaces(text: &[u8]) -> &[u8]
 
 #[inline(always)]
 #[tactic(auto, using(crate::proofs::Plain::last_blank))]
-fn trim_end_spaces(text: &[u8]) -> &[u8]
+fn trim_end_blanks(text: &[u8]) -> &[u8]
     ensures { spec_trim result.now ≡ spec_trim text.now }
 {
     let mut end = text.len();
-    while end > 0 && text[end - 1] == b' ' {
+    while end > 0 && is_blank(text[end - 1]) {
         end -= 1;
     }
     &text[..end]
 }
 
-// Ideographic spaces, U+3000, have their own loops as well.
-#[tactic(auto, using(crate::proofs::Plain::first_wide))]
-fn trim_start_ideographic_spaces(text: &[u8]) -> &[u8]
-    ensures { spec_trim result.now ≡ spec_trim text.now }
-{
-    let mut start = 0;
-    while start + 2 < text.len()
-        && is_ideographic_space(text[start], text[start + 1], text[start + 2])
-    {
-        start += 3;
-    }
-    &text[start..]
-}
-
-#[tactic(auto, using(crate::proofs::Plain::last_wide))]
-fn trim_end_ideographic_spaces(text: &[u8]) -> &[u8]
-    ensures { spec_trim result.now ≡ spec_trim text.now }
-{
-    let mut end = text.len();
-    while end > 2 && is_ideographic_space(text[end - 3], text[end - 2], text[end - 1]) {
-        end -= 3;
-    }
-    &text[..end]
-}
-
+// White space of ASCII.
 #[inline(always)]
-fn is_ideographic_space(first: u8, second: u8, third: u8) -> bool
-    ensures { IsTrue result → (first ≡ 0xE3) × (second ≡ 0x80) × (third ≡ 0x80) }
+pub(crate) fn is_blank(byte: u8) -> bool
+    ensures { IsTrue result → (is_whitespace byte ≡ true) × (byte < 128) }
 {
-    first == 0xE3 && second == 0x80 && third == 0x80
+    byte == b' ' || b'\t' <= byte && byte <= b'\r'
 }
 
 // Whether the first and the last byte show that there is nothing to trim.
@@ -126,16 +107,7 @@ fn is_plain(text: &[u8]) -> bool
     ensures { IsTrue result → spec_trim text.now ≡ text.now }
 {
     let len = text.len();
-    len == 0 || begins_visible(text[0]) && is_visible(text[len - 1])
-}
-
-// An ASCII byte above the space, or a byte outside ASCII with which no white space begins: there, white space begins
-// with 194, 225, 226 or 227.
-#[inline(always)]
-fn begins_visible(byte: u8) -> bool
-    ensures { IsTrue result → IsVisibleLead byte }
-{
-    32 < byte && byte < 128 || 195 <= byte && byte < 225 || 228 <= byte
+    len == 0 || is_visible(text[0]) && is_visible(text[len - 1])
 }
 
 // An ASCII byte above the space: a whole character, and not white space.
@@ -144,4 +116,32 @@ fn is_visible(byte: u8) -> bool
     ensures { IsTrue result ↔ (32 < byte) × (byte < 128) }
 {
     32 < byte && byte < 128
+}
+
+/// The entry of a line with two contacts. An empty name counts as missing.
+#[inline]
+pub fn change_by_both<'a>(
+    name: &'a [u8],
+    email: &'a [u8],
+    old_name: &'a [u8],
+    old_email: &'a [u8],
+) -> Entry<'a>
+    ensures { mapping_of result ≡ by_both name.now email.now old_name.now old_email.now }
+{
+    match (non_empty(name), non_empty(old_name)) {
+        (None, None) => Entry::change_email_by_email(email, old_email),
+        (None, Some(old_name)) => Entry::change_email_by_name_and_email(email, old_name, old_email),
+        (Some(name), None) => Entry::change_name_and_email_by_email(name, email, old_email),
+        (Some(name), Some(old_name)) => {
+            Entry::change_name_and_email_by_name_and_email(name, email, old_name, old_email)
+        }
+    }
+}
+
+/// The text, `None` if it is empty.
+#[inline]
+pub fn non_empty(text: &[u8]) -> Option<&[u8]>
+    ensures { option_copied result ≡ spec_non_empty text.now }
+{
+    if text.is_empty() { None } else { Some(text) }
 }

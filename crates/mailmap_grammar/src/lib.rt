@@ -3,7 +3,6 @@
 #![tactic(auto)]
 
 pub mod contacts;
-mod feeds;
 pub mod laws;
 pub mod lines;
 mod skip;

@@ -14,18 +14,17 @@
 //! - Text after the second contact is ignored, and so is text without `<` after the first contact. A second `<` without
 //!   its `>` is ignored, too, unless lines are parsed strictly, by [`parse_strict`].
 //! - A line with nothing but one email maps nothing.
-ghost use Rattle.std.specs.Prelude.{◌≡◌, ◌≤◌, IfOk, IfSome, option_map, length};
-ghost use Rattle.std.specs.Option.{option_copied};
+ghost use Rattle.std.specs.Prelude.{◌≡◌, ◌<◌, ◌≤◌, ◌∷◌, [], IfOk, IfSome, MatchOption, option_map, length};
 ghost use Rattle.std.specs.Iterator.{YieldsFirstBy, item_count};
 ghost use Rattle.std.specs.List.Sorted.{IsStrictlySortedBy};
 ghost use Rattle.std.specs.Ordering.{nat_cmp};
 ghost use Rattle.mailmap_entries.specs.Entries.{mapping_of};
 ghost use Rattle.mailmap_grammar.specs.Lines.{trailing_text, cut, reading_of, reading_with_trailing, reading_by};
-ghost use Rattle.mailmap_grammar.specs.Lines.{line_reader, non_empty as spec_non_empty, by_both, readings};
+ghost use Rattle.mailmap_grammar.specs.Lines.{line_reader, readings};
 ghost use Rattle.mailmap_grammar.specs.Lines.{readings_from, strict_readings, pieces, fault_lines, mappings_of};
 ghost use Rattle.mailmap_grammar.specs.Trimming.{trim as spec_trim};
 
-use crate::contacts::{ParsedContact, parse_name_and_email, trim};
+use crate::contacts::{ParsedContact, change_by_both, non_empty, parse_name_and_email, trim};
 use crate::skip::skip_comments_and_blanks;
 use crate::trailing::WithTrailing;
 use bstr::ByteSlice;
@@ -88,7 +87,8 @@ pub fn parse_ignore_errors(buf: &[u8]) -> GoodLines<'_>
 /// Contracts see it as the list of the items that are left.
 #[derive(Drop)]
 pub struct Lines<'a> {
-    lines: bstr::Lines<'a>,
+    // the lines that are left
+    rest: &'a [u8],
     // the number of the line that was parsed last
     line_number: usize,
     strictness: Strictness,
@@ -105,13 +105,13 @@ pub enum Strictness {
 
 impl<'a> Model for Lines<'a> {
     ghost use Rattle.std.specs.Prelude.{List, length, ◌+◌, ◌^◌, ◌<◌};
-    ghost use Rattle.mailmap_grammar.specs.Lines.{Reading, readings_from, reading_by, line_reader};
+    ghost use Rattle.mailmap_grammar.specs.Lines.{Reading, readings_from, reading_by, line_reader, pieces};
 
     ghost Value = { List Reading };
 
-    ghost view = { λ s. readings_from (reading_by (line_reader s.strictness)) (s.line_number + 1) s.lines };
+    ghost view = { λ s. readings_from (reading_by (line_reader s.strictness)) (s.line_number + 1) (pieces s.rest.now) };
 
-    ghost invariant = { λ s. s.line_number + length s.lines < 2 ^ 64 };
+    ghost invariant = { λ s. s.line_number + length s.rest.now < 2 ^ 64 };
 }
 
 impl<'a> Lines<'a> {
@@ -122,7 +122,7 @@ impl<'a> Lines<'a> {
         ensures countable { length result ≤ length buf.now }
     {
         Lines {
-            lines: buf.lines(),
+            rest: buf,
             line_number: 0,
             strictness,
         }
@@ -137,15 +137,28 @@ impl<'a> Iterator for Lines<'a> {
     ghost remaining = { item_count (λ s. s) };
 
     fn next(&mut self) -> Option<Result<Entry<'a>, Error<'a>>> {
-        self.line_number += skip_comments_and_blanks(&mut self.lines);
-        while let Some(text) = self.lines.next() {
-            self.line_number += 1;
+        loop {
+            let (rest, count) = skip_comments_and_blanks(self.rest);
+            let (text, rest) = first_line(rest)?;
+            self.rest = rest;
+            self.line_number += count + 1;
             if let Some(item) = read_line(text, self.line_number, self.strictness) {
                 return Some(item);
             }
-            self.line_number += skip_comments_and_blanks(&mut self.lines);
         }
-        None
+    }
+}
+
+// The first line without its line feed, and what comes after it.
+#[inline(always)]
+fn first_line(bytes: &[u8]) -> Option<(&[u8], &[u8])>
+    ensures { MatchOption result (bytes.now ≡ []) (λ p. (pieces bytes.now ≡ p.0.now ∷ pieces p.1.now)
+        × (length p.1.now < length bytes.now)) }
+{
+    match bytes.find_byte(b'\n') {
+        Some(feed) => Some((&bytes[..feed], &bytes[feed + 1..])),
+        None if bytes.is_empty() => None,
+        None => Some((bytes, &[])),
     }
 }
 
@@ -318,29 +331,4 @@ fn parse_line(
         entry,
         trailing: rest,
     })
-}
-
-/// The entry of a line with two contacts. An empty name counts as missing.
-fn change_by_both<'a>(
-    name: &'a [u8],
-    email: &'a [u8],
-    old_name: &'a [u8],
-    old_email: &'a [u8],
-) -> Entry<'a>
-    ensures { mapping_of result ≡ by_both name.now email.now old_name.now old_email.now }
-{
-    match (non_empty(name), non_empty(old_name)) {
-        (None, None) => Entry::change_email_by_email(email, old_email),
-        (None, Some(old_name)) => Entry::change_email_by_name_and_email(email, old_name, old_email),
-        (Some(name), None) => Entry::change_name_and_email_by_email(name, email, old_email),
-        (Some(name), Some(old_name)) => {
-            Entry::change_name_and_email_by_name_and_email(name, email, old_name, old_email)
-        }
-    }
-}
-
-fn non_empty(text: &[u8]) -> Option<&[u8]>
-    ensures { option_copied result ≡ spec_non_empty text.now }
-{
-    if text.is_empty() { None } else { Some(text) }
 }

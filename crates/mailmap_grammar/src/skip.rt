@@ -1,49 +1,28 @@
 //! Skips comments and blank lines that are easy to recognize, without parsing them.
-ghost use Rattle.std.specs.Prelude.{◌≡◌, ◌≢◌, ◌+◌, ◌<◌, ℕ, IfSome, IsTrue, None, Some, length, map, slice_index, take, true, []};
+ghost use Rattle.std.specs.Prelude.{◌≡◌, ◌<◌, ℕ, IfSome, None, Some, length, slice_index, take, []};
 ghost use Rattle.mailmap_grammar.specs.Trimming.{trim};
-ghost use Rattle.std.specs.Char.{is_whitespace};
 ghost use Rattle.bstr.specs.Find.{IsFirstByte, is_byte};
-ghost use Rattle.bstr.specs.Text.{lines_of, without_terminator};
 ghost use Rattle.mailmap_entries.specs.Folding.{Text};
-ghost use Rattle.mailmap_grammar.specs.Lines.{Reading, reading_by, readings_from};
+ghost use Rattle.mailmap_grammar.specs.Lines.{Reading, Skips, reading_by};
 
-use crate::feeds::first_feed;
-use bstr::{ByteSlice, Lines};
+use crate::contacts::is_blank;
+use bstr::ByteSlice;
 
-// The most white space that is looked at. A line with more is parsed.
-const MOST_BLANKS: usize = 16;
-
-/// Skips comments and blank lines up to a line that may be neither, and returns how many.
+/// Skips comments and blank lines up to a line that may be neither. Returns what comes after them, and how many they
+/// are.
 #[inline(always)]
-pub(crate) fn skip_comments_and_blanks(lines: &mut Lines<'_>) -> usize
-    ensures counted { result + length lines.new ≡ length lines.old }
-    ensures none_read { (says : ℕ → Text → Reading) (n : ℕ) → readings_from (reading_by says) n lines.old
-        ≡ readings_from (reading_by says) (n + result) lines.new }
+pub(crate) fn skip_comments_and_blanks(bytes: &[u8]) -> (&[u8], usize)
+    ensures { Skips bytes.now result.0.now result.1 }
 {
     // Most lines begin with a letter or `<`.
-    match lines.as_bytes().first() {
-        Some(first) if *first <= b'#' => skip_each(lines),
-        _ => 0,
+    match bytes.first() {
+        Some(first) if *first <= b'#' => skip_each(bytes),
+        _ => (bytes, 0),
     }
 }
 
-fn skip_each(lines: &mut Lines<'_>) -> usize
-    ensures counted { result + length lines.new ≡ length lines.old }
-    ensures none_read { (says : ℕ → Text → Reading) (n : ℕ) → readings_from (reading_by says) n lines.old
-        ≡ readings_from (reading_by says) (n + result) lines.new }
-{
-    let (rest, count) = after_skipped(lines.as_bytes());
-    *lines = rest.lines();
-    count
-}
-
-// What comes after the comments and blank lines, and how many these are.
-fn after_skipped(bytes: &[u8]) -> (&[u8], usize)
-    ensures counted { result.1 + length (map without_terminator (lines_of result.0.now))
-        ≡ length (map without_terminator (lines_of bytes.now)) }
-    ensures none_read { (says : ℕ → Text → Reading) (n : ℕ)
-        → readings_from (reading_by says) n (map without_terminator (lines_of bytes.now))
-        ≡ readings_from (reading_by says) (n + result.1) (map without_terminator (lines_of result.0.now)) }
+fn skip_each(bytes: &[u8]) -> (&[u8], usize)
+    ensures { Skips bytes.now result.0.now result.1 }
 {
     let mut rest = bytes;
     let mut count = 0;
@@ -76,7 +55,7 @@ fn comment_feed(bytes: &[u8]) -> Option<usize>
     if bytes.len() > 1 && bytes[1] == b'\n' {
         return Some(1);
     }
-    first_feed(bytes)
+    bytes.find_byte(b'\n')
 }
 
 // The line feed after white space.
@@ -86,7 +65,7 @@ fn blank_feed(bytes: &[u8]) -> Option<usize>
     ensures blank { IfSome result (λ feed. trim (take feed bytes.now) ≡ []) }
 {
     let mut end = 0;
-    while end < bytes.len() && end <= MOST_BLANKS {
+    while end < bytes.len() {
         if bytes[end] == b'\n' {
             return Some(end);
         }
@@ -96,11 +75,4 @@ fn blank_feed(bytes: &[u8]) -> Option<usize>
         end += 1;
     }
     None
-}
-
-#[inline(always)]
-fn is_blank(byte: u8) -> bool
-    ensures { IsTrue result → (is_whitespace byte ≡ true) × (byte < 128) }
-{
-    byte == b' ' || b'\t' <= byte && byte <= b'\r'
 }

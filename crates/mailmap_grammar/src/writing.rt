@@ -64,7 +64,13 @@ fn is_trimmed(text: &[u8]) -> bool
 fn is_line_without(text: &[u8], byte: u8) -> bool
     ensures { IsTrue result ↔ (HoldsNo byte text.now × HoldsNo 10 text.now) }
 {
-    text.find_byteset(&[byte, b'\n']).is_none()
+    holds_no(text, byte) && holds_no(text, b'\n')
+}
+
+fn holds_no(text: &[u8], byte: u8) -> bool
+    ensures { IsTrue result ↔ HoldsNo byte text.now }
+{
+    text.find_byte(byte).is_none()
 }
 
 /// The sum of `len` and the length of the entry's line, `None` if it overflows.

@@ -3,8 +3,5 @@ pub mod Giving
 pub mod Redundant
 pub mod Sublists
 pub mod Kept
-pub mod Keyed
 pub mod Rows
 pub mod Numbered
-pub mod Passing
-pub mod Bounded

@@ -1,260 +1,280 @@
--- Summaries of ranges, and whether they say that an entry is redundant.
-use Rattle.std.proofs.Common.{◌≡◌, Bool, true, false, cond, List, [], ◌∷◌, ◌++◌, filter, Option, None, Some, refl, ap, sym, ◌∙◌, true≢false, ◌&&◌, ◌||◌, if◌then◌else◌, is_some, subst, arith}
-use Rattle.std.specs.Cmp.{tied_itself, Equal-is}
+-- An accepted entry is redundant exactly if without it its key is still there and has the same value.
+use Rattle.std.proofs.lemmas.Grind.{common_steps}
+use Rattle.std.proofs.Common.{rules, ◌≡◌, Bool, true, false, List, [], ◌∷◌, ◌++◌, filter, Option, None, Some, refl, ap, sym, ◌∙◌, true≢false, append_assoc, ⊎_elim, inl, inr, is_some, unwrap_or, subst, arith}
+use Rattle.std.specs.Prelude.{◌↔◌, ◌⊎◌, IfSome}
+use Rattle.std.specs.Bool.{Decides}
+use Rattle.std.specs.Cmp.{tied_itself}
 use Rattle.std.specs.Cmp.Lexicographic.{nat_list_cmp_total}
 use Rattle.std.specs.Ordering.{eq_by_cmp, is_eq}
-use Rattle.std.specs.List.{cons_option, filter_map, AllByRecursion}
-use Rattle.std.specs.Option.{option_map, option_or, option_flatten}
-use Rattle.std.proofs.lemmas.List.Elements.{filter_map-append, filter_passes, recursion_from_All}
+use Rattle.std.specs.Option.{option_and_then, option_map}
+use Rattle.std.proofs.lemmas.Bool.{and_from, and_parts, cases_Bool}
+use Rattle.std.proofs.lemmas.List.Elements.{All-from_recursion, filter-append, recursion_from_All, filter_passes}
+use Rattle.std.proofs.lemmas.Map.Lookups.{exact_bytes}
+use Rattle.std.proofs.lemmas.Map.Views.{tells_apart}
 use Rattle.mailmap_entries.specs.Entries.{Mapping}
 use Rattle.mailmap_entries.specs.Folding.{Text, folded, text_cmp}
-use Rattle.mailmap_entries.specs.Semantics.{Key, key, key_cmp, first, last, is_accepted, accepted, new_fields, of_email, of_key, spelling, Fields, has_key, last_fields}
-use Rattle.mailmap_entries.proofs.Alike.{picked-append, first_parts, given_parts, last_parts, same_normal, alike_back, key_parts}
-use Rattle.mailmap_entries.proofs.Keys.{keys_total, keys_exact}
-use Rattle.mailmap_entries.proofs.Parts.{first-append, last_of_one}
-use Rattle.mailmap_redundancy.specs.Summaries.{key_summary, own_summary, joined_summary, KeySummary, Summary, later_of, summary, is_last_unchanged, same_fields, is_value_unchanged, is_redundant}
-use Rattle.std.specs.Bool.{Decides}
-use Rattle.std.proofs.lemmas.Bool.Decides.{Decides-and, Decides-like}
-use Rattle.std.proofs.lemmas.Map.Lookups.{exact_bytes}
-use Rattle.mailmap_entries.specs.Alike.{Alike, first_name}
-use Rattle.mailmap_entries.specs.Listings.{same_optional}
-use Rattle.mailmap_entries.proofs.EqualListings.{optional_decides}
+use Rattle.mailmap_entries.specs.Semantics.{IsNormal, Key, accepted, first, has_key, is_accepted, key, key_cmp, last, last_given, mapping_with, new_fields, no_fields, of_email, of_key, value}
+use Rattle.mailmap_entries.specs.Alike.{Alike}
+use Rattle.mailmap_entries.proofs.Alike.{alike_accepted, alike_back, picked-append, same_normal, same_value}
+use Rattle.mailmap_entries.proofs.Ascending.{each_key}
+use Rattle.mailmap_entries.proofs.EqualListings.{entry_decides}
 use Rattle.mailmap_entries.proofs.Exists.{normal, is_normal}
-use Rattle.mailmap_entries.proofs.Joined.{alike_trans}
+use Rattle.mailmap_entries.proofs.Joined.{alike_trans, last-map}
+use Rattle.mailmap_entries.proofs.Keys.{keys_total, keys_exact}
 use Rattle.mailmap_entries.proofs.Normal.{alike_normal, known}
-use Rattle.mailmap_redundancy.specs.Redundancy.{IsRedundant}
+use Rattle.mailmap_entries.proofs.Parts.{all_apply, all_last, filter-map, first-append, is_some-option_map, last-append}
+use Rattle.mailmap_redundancy.specs.Redundancy.{IsRedundant, LocatedMapping, entries, entries_of_key}
+use Rattle.mailmap_redundancy.specs.Origins.{entries_of_email, last_with}
+use Rattle.mailmap_redundancy.specs.Numbers.{Said, is_redundant, joined_said, key_origins, said, said_of_one, value_said}
+use Rattle.std.proofs.lemmas.List.{map-append}
+use Rattle.std.specs.List.{AllByRecursion}
 
--- ---- two ranges
+-- ---- the value of a key
 
-pub summary_parts : (a b : List Mapping) (k : Key) → key_summary (a ++ b) k ≡ joined_summary (key_summary a k) (key_summary b k)
-summary_parts a b k = grind (arith, picked-append, filter_map-append, first-append, given_parts, last_parts)
+-- how the first of an email's entries spells it
+abbrev pub spelled : List Mapping → Text
+spelled m = unwrap_or (option_map (λ e. e.old_email) (first m)) []
 
-pub spelling_parts : (a b : List Mapping) (email : Text) → spelling (a ++ b) email ≡ option_or (spelling a email) (spelling b email)
-spelling_parts a b email = first_parts (λ e. e.old_email) (λ e. eq_by_cmp text_cmp email (folded e.old_email)) a b
+-- the value of a key whose entries are l, and whose email is spelled t
+abbrev pub value_from : Option Text → List Mapping → Text → Mapping
+value_from None l t =
+    mapping_with (record { name = last_given (λ e. e.new_name) l; email = last_given (λ e. e.new_email) l }) None t
+value_from (Some name) l t =
+    mapping_with (unwrap_or (option_map new_fields (last l)) no_fields) (option_and_then (λ e. e.old_name) (first l)) t
 
--- ---- one entry
+pub value_is : (h : List Mapping) (k : Key) → value h k ≡ value_from k.1 (of_key h k) (spelled (of_email h k.0))
+value_is h (email, None) = refl
+value_is h (email, Some name) = refl
 
--- a filter picks an accepted entry that passes its test
-pub picked_one : (p : Mapping → Bool) (e : Mapping) → is_accepted e ≡ true → filter p (accepted (e ∷ [])) ≡ cond (p e) (e ∷ []) []
-picked_one p e good = ap (λ b. filter p (cond b (e ∷ []) [])) good
+old_email_is : (h : List Mapping) (k : Key) → (value h k).old_email ≡ spelled (of_email h k.0)
+old_email_is h (email, None) = refl
+old_email_is h (email, Some name) = refl
 
-pub of_key_one : (e : Mapping) → is_accepted e ≡ true → of_key (e ∷ []) (key e) ≡ e ∷ []
-of_key_one e good =
-    picked_one (λ x. eq_by_cmp key_cmp (key e) (key x)) e good ∙ ap (λ o. cond (is_eq o) (e ∷ []) []) (tied_itself keys_total (key e))
+-- lists with the same keys, each of the same value, have the same normal lists
+same_values : (h g n : List Mapping) → ((k : Key) → has_key (accepted h) k ≡ has_key (accepted g) k)
+    → ((k : Key) → has_key (accepted h) k ≡ true → value h k ≡ value g k) → IsNormal h n → IsNormal g n
+same_values h g n keys values d = record {
+  ascending = d.ascending;
+  keys = λ k. d.keys k ∙ keys k;
+  values = All-from_recursion (λ e. e ≡ value g (key e)) n
+      (all_apply (λ e. e ≡ value h (key e)) (λ e. value h (key e) ≡ value g (key e)) (λ e. e ≡ value g (key e))
+      (λ e is same. is ∙ same) n (recursion_from_All (λ e. e ≡ value h (key e)) n d.values)
+      (each_key keys_total keys_exact key (value h) (λ k. value h k ≡ value g k) n
+      (λ k has. values k (sym (d.keys k) ∙ has))));
+}
 
-first_of_one : {X Y : Type 0} (f : X → Option Y) (x : X) → first (filter_map f (x ∷ [])) ≡ f x
-first_of_one f x = elim (f x) as (λ o. first (cons_option o []) ≡ o) [ None ↦ refl | Some y ↦ refl ]
+-- ---- the entries that a filter picks from the accepted ones
 
-pub summary_own : (e : Mapping) → is_accepted e ≡ true → key_summary (e ∷ []) (key e) ≡ own_summary e
-summary_own e good = grind (arith, of_key_one, first_of_one, last_of_one)
+abbrev pub picked : (Mapping → Bool) → List Mapping → List Mapping
+picked p h = filter p (accepted h)
 
-pub spelling_own : (e : Mapping) → is_accepted e ≡ true → spelling (e ∷ []) (folded e.old_email) ≡ Some e.old_email
-spelling_own e good =
-    ap (λ l. option_map (λ x. x.old_email) (first l))
-    (picked_one (λ x. eq_by_cmp text_cmp (folded e.old_email) (folded x.old_email)) e good
-    ∙ ap (λ o. cond (is_eq o) (e ∷ []) []) (tied_itself nat_list_cmp_total (folded e.old_email)))
+pub picked_own : (p : Mapping → Bool) (a : List Mapping) (e : Mapping) (c : List Mapping) → is_accepted e ≡ true
+    → p e ≡ true → picked p (a ++ e ∷ c) ≡ picked p a ++ e ∷ picked p c
+picked_own p a e c good is = search (rules, picked-append)
 
--- an entry that fails the filter's test can be dropped
-pub picked_without : (p : Mapping → Bool) (a : List Mapping) (e : Mapping) (c : List Mapping) → p e ≡ false → filter p (accepted (a ++ e ∷ c)) ≡ filter p (accepted (a ++ c))
-picked_without p a e c never =
-    picked-append p a (e ∷ c) ∙ ap (λ l. filter p (accepted a) ++ l) skipped ∙ sym (picked-append p a c)
-  where
-    skipped : filter p (accepted (e ∷ c)) ≡ filter p (accepted c)
-    skipped =
-        elim (is_accepted e) as (λ b. filter p (cond b (e ∷ accepted c) (accepted c)) ≡ filter p (accepted c)) [
-          | true ↦ ap (λ b. cond b (e ∷ filter p (accepted c)) (filter p (accepted c))) never
-          | false ↦ refl
-        ]
+pub picked_other : (p : Mapping → Bool) (a : List Mapping) (e : Mapping) (c : List Mapping) → p e ≡ false
+    → picked p (a ++ e ∷ c) ≡ picked p (a ++ c)
+picked_other p a e c isn't = search (rules, picked-append)
 
-pub of_key_without : (a : List Mapping) (e : Mapping) (c : List Mapping) (k : Key) → eq_by_cmp key_cmp k (key e) ≡ false → of_key (a ++ e ∷ c) k ≡ of_key (a ++ c) k
-of_key_without a e c k = picked_without (λ x. eq_by_cmp key_cmp k (key x)) a e c
+pub own_key : (e : Mapping) → eq_by_cmp key_cmp (key e) (key e) ≡ true
+own_key e = ap is_eq (tied_itself keys_total (key e))
 
-pub of_email_without : (a : List Mapping) (e : Mapping) (c : List Mapping) (email : Text) → eq_by_cmp text_cmp email (folded e.old_email) ≡ false → of_email (a ++ e ∷ c) email ≡ of_email (a ++ c) email
-of_email_without a e c email = picked_without (λ x. eq_by_cmp text_cmp email (folded x.old_email)) a e c
+pub own_email : (e : Mapping) → eq_by_cmp text_cmp (folded e.old_email) (folded e.old_email) ≡ true
+own_email e = ap is_eq (tied_itself nat_list_cmp_total (folded e.old_email))
 
--- the summary depends only on the entries of the key
-pub same_summary : (h g : List Mapping) (k : Key) → of_key h k ≡ of_key g k → key_summary h k ≡ key_summary g k
-same_summary h g k same = grind arith
+-- an entry of a key is an entry of its email
+pub of_its_email : (k : Key) (e : Mapping) → eq_by_cmp key_cmp k (key e) ≡ true
+    → eq_by_cmp text_cmp k.0 (folded e.old_email) ≡ true
+of_its_email k e is = search (rules, keys_exact, own_email, tells_apart)
 
--- an entry with another key doesn't matter
-pub summary_without : (a : List Mapping) (e : Mapping) (c : List Mapping) (k : Key) → eq_by_cmp key_cmp k (key e) ≡ false → key_summary (a ++ e ∷ c) k ≡ key_summary (a ++ c) k
-summary_without a e c k other =
-    same_summary (a ++ e ∷ c) (a ++ c) k (of_key_without a e c k other)
+-- what passes no weaker test passes no stronger one
+pub none_passes : {X : Type 0} (p q : X → Bool) → ((x : X) → p x ≡ true → q x ≡ true) → (xs : List X)
+    → filter q xs ≡ [] → filter p xs ≡ []
+none_passes p q weaker [] none = refl
+none_passes p q weaker (x ∷ xs) none = grind (arith, weaker x, none_passes p q weaker xs)
 
--- an entry of another email doesn't matter
-pub spelling_without : (a : List Mapping) (e : Mapping) (c : List Mapping) (email : Text) → eq_by_cmp text_cmp email (folded e.old_email) ≡ false → spelling (a ++ e ∷ c) email ≡ spelling (a ++ c) email
-spelling_without a e c email other = ap (λ l. option_map (λ x. x.old_email) (first l)) (of_email_without a e c email other)
+-- ---- redundant entries
 
--- ---- a range, an entry and a range, at the entry's key and email
+pub alike_redundant : (a : List Mapping) (e : Mapping) (c : List Mapping) → Alike (a ++ e ∷ c) (a ++ c)
+    → IsRedundant a e c
+alike_redundant a e c alike n = search (rules, alike_back, same_normal)
 
-pub summary_around : (a : List Mapping) (e : Mapping) (c : List Mapping) → is_accepted e ≡ true
-    → key_summary (a ++ e ∷ c) (key e) ≡ joined_summary (key_summary a (key e)) (joined_summary (own_summary e) (key_summary c (key e)))
-summary_around a e c good =
-    summary_parts a (e ∷ c) (key e)
-    ∙ ap (joined_summary (key_summary a (key e))) (summary_parts (e ∷ []) c (key e) ∙ ap (λ s. joined_summary s (key_summary c (key e))) (summary_own e good))
+pub unaccepted_redundant : (a : List Mapping) (e : Mapping) (c : List Mapping) → is_accepted e ≡ false
+    → IsRedundant a e c
+unaccepted_redundant a e c bad = grind (arith, alike_redundant, alike_accepted, filter-append)
 
-pub spelling_around : (a : List Mapping) (e : Mapping) (c : List Mapping) → is_accepted e ≡ true
-    → spelling (a ++ e ∷ c) (folded e.old_email) ≡ option_or (spelling a (folded e.old_email)) (option_or (Some e.old_email) (spelling c (folded e.old_email)))
-spelling_around a e c good =
-    spelling_parts a (e ∷ c) (folded e.old_email)
-    ∙ ap (option_or (spelling a (folded e.old_email))) (spelling_parts (e ∷ []) c (folded e.old_email) ∙ ap (λ s. option_or s (spelling c (folded e.old_email))) (spelling_own e good))
-
--- ---- dropping a redundant entry leaves equivalent entries
-
-pub redundant_alike : (a : List Mapping) (e : Mapping) (c : List Mapping) → IsRedundant a e c → Alike (a ++ e ∷ c) (a ++ c)
+redundant_alike : (a : List Mapping) (e : Mapping) (c : List Mapping) → IsRedundant a e c → Alike (a ++ e ∷ c) (a ++ c)
 redundant_alike a e c redundant =
-    let n = normal (a ++ e ∷ c) in
     let d = is_normal (a ++ e ∷ c) in
-    alike_trans (a ++ e ∷ c) n (a ++ c) (alike_normal (a ++ e ∷ c) n d) (alike_back (a ++ c) n (alike_normal (a ++ c) n ((redundant n).0 d)))
+    let d' = (redundant (normal (a ++ e ∷ c))).0 d in
+    search (rules, alike_trans, alike_normal, alike_back)
 
-pub alike_redundant : (a : List Mapping) (e : Mapping) (c : List Mapping) → Alike (a ++ e ∷ c) (a ++ c) → IsRedundant a e c
-alike_redundant a e c alike n = (same_normal (a ++ e ∷ c) (a ++ c) n alike, same_normal (a ++ c) (a ++ e ∷ c) n (alike_back (a ++ e ∷ c) (a ++ c) alike))
-
--- ---- the parts of the test
-
-first_decides : (before : Option Text) (own : Text) (after : Option Text) → Decides (is_some before || same_optional (Some own) after) (option_or before (Some own) ≡ option_or before after)
-first_decides (Some x) own after = (λ e. refl, λ e. refl)
-first_decides None own after = optional_decides (Some own) after
-
-last_decides : (before own after : Option Text) → Decides (is_last_unchanged before own (is_some after)) (option_or (option_or after own) before ≡ option_or after before)
-last_decides before own (Some x) = (λ e. refl, λ e. refl)
-last_decides before None None = (λ e. refl, λ e. refl)
-last_decides before (Some x) None = optional_decides (Some x) before
-
-fields_decide : (f : Fields) (o : Option Fields) → Decides (same_fields f o) (Some f ≡ o)
-fields_decide f None = (λ e. absurd (true≢false (sym e)), λ e. cc)
-fields_decide f (Some g) = grind (arith, Decides-like, Decides-and, optional_decides)
-
-last_fields_decide : (before : Option Fields) (own : Fields) (after : Option Fields) → Decides (is_some after || same_fields own before) (option_or (option_or after (Some own)) before ≡ option_or after before)
-last_fields_decide before own (Some x) = (λ e. refl, λ e. refl)
-last_fields_decide before own None = fields_decide own before
-
--- the parts of a key's summary that its value depends on
-abbrev SameValue : Option Text → KeySummary → KeySummary → Type 0
-SameValue None s t = (s.name ≡ t.name) × (s.email ≡ t.email)
-SameValue (Some name) s t = (s.old_name ≡ t.old_name) × (s.last ≡ t.last)
-
-value_decides : (s : KeySummary) (e : Mapping) (after : Summary)
-    → Decides (is_value_unchanged s e (later_of e after)) (SameValue e.old_name (joined_summary s (joined_summary (own_summary e) after.of_key)) (joined_summary s after.of_key))
-value_decides s e after = by after.of_key e.old_name
-  where
-    by : (t : KeySummary) (o : Option Text)
-        → Decides (if is_some o then (is_some s.old_name || same_optional o t.old_name) && (is_some t.last || same_fields (new_fields e) s.last) else (is_last_unchanged s.name e.new_name (is_some t.name) && is_last_unchanged s.email e.new_email (is_some t.email)))
-        (SameValue o (joined_summary s (joined_summary (record { old_name = o; name = e.new_name; email = e.new_email; last = Some (new_fields e) }) t)) (joined_summary s t))
-    by t None = Decides-and (is_last_unchanged s.name e.new_name (is_some t.name)) (is_last_unchanged s.email e.new_email (is_some t.email)) (last_decides s.name e.new_name t.name) (last_decides s.email e.new_email t.email)
-    by t (Some w) = Decides-and (is_some s.old_name || same_optional (Some w) t.old_name) (is_some t.last || same_fields (new_fields e) s.last) (first_decides s.old_name w t.old_name) (last_fields_decide s.last (new_fields e) t.last)
-
--- ---- equivalence at one key
-
--- if a key has an old name, so has each of its entries, so the first entry has the first old name
-pub named_first : (h : List Mapping) (email name : Text) → first_name h (email, Some name) ≡ option_map (λ t. Some t) (key_summary h (email, Some name)).old_name
-named_first h email name =
-    by (of_key h (email, Some name)) (recursion_from_All _ _ (filter_passes (λ e. eq_by_cmp key_cmp (email, Some name) (key e)) (accepted h)))
-  where
-    one : (xs : List Text) (o : Option Text) → option_map folded o ≡ Some name → Some o ≡ option_map (λ t. Some t) (first (cons_option o xs))
-    one xs None named = cc
-    one xs (Some w) named = refl
-
-    by : (l : List Mapping) → AllByRecursion (λ e. eq_by_cmp key_cmp (email, Some name) (key e) ≡ true) l → option_map (λ e. e.old_name) (first l) ≡ option_map (λ t. Some t) (first (filter_map (λ e. e.old_name) l))
-    by [] all = refl
-    by (x ∷ xs) all = one (filter_map (λ e. e.old_name) xs) x.old_name (sym (ap (λ k. k.1) (keys_exact (email, Some name) (key x) ((Equal-is (key_cmp (email, Some name) (key x))).0 all.0))))
-
-some_out : {X : Type 0} (o p : Option X) → option_map (λ t. Some t) o ≡ option_map (λ t. Some t) p → o ≡ p
-some_out None None e = refl
-some_out None (Some y) e = cc
-some_out (Some x) None e = cc
-some_out (Some x) (Some y) e = ap (λ o. option_flatten o) e
-
--- equivalent entries give the key the same value
-alike_value : (h g : List Mapping) → Alike h g → (email : Text) (o : Option Text) → SameValue o (key_summary h (email, option_map folded o)) (key_summary g (email, option_map folded o))
-alike_value h g alike email None = (ap (λ f. f.name) (alike.given email), ap (λ f. f.email) (alike.given email))
-alike_value h g alike email (Some w) = grind (arith, some_out, named_first)
-
-there_last : (h : List Mapping) (k : Key) → has_key (accepted h) k ≡ is_some (last_fields h k)
-there_last h k = known h k ∙ (elim (of_key h k) as (λ l. is_some (first l) ≡ is_some (option_map new_fields (last l))) [ [] ↦ refl | x ∷ xs ↦ refl ])
-
-there_parts : (a c : List Mapping) (k : Key) → has_key (accepted (a ++ c)) k ≡ (is_some (last_fields a k) || is_some (last_fields c k))
-there_parts a c k = key_parts k a c ∙ (λ i. there_last a k i || there_last c k i)
+-- ---- dropping one entry
 
 module _ (a : List Mapping) (e : Mapping) (c : List Mapping) (good : is_accepted e ≡ true) where
-  there_own : has_key (accepted (a ++ e ∷ c)) (key e) ≡ true
-  there_own =
-      there_last (a ++ e ∷ c) (key e) ∙ ap (λ s. is_some s.last) (summary_around a e c good) ∙ some_of (last_fields a (key e)) (last_fields c (key e))
+  abbrev whole : List Mapping
+  whole = a ++ e ∷ c
+
+  abbrev rest : List Mapping
+  rest = a ++ c
+
+  abbrev pub KeyStays : Type 0
+  KeyStays = (has_key (accepted rest) (key e) ≡ true) × (value whole (key e) ≡ value rest (key e))
+
+  there : has_key (accepted whole) (key e) ≡ true
+  there = grind (arith, common_steps, own_key, picked_own)
+
+  -- the other keys are there and have the same values, too
+  each : KeyStays → (k : Key)
+      → (has_key (accepted whole) k ≡ has_key (accepted rest) k) × (value whole k ≡ value rest k)
+  each stays k = ⊎_elim
+      (λ own. subst (λ j. (has_key (accepted whole) j ≡ has_key (accepted rest) j) × (value whole j ≡ value rest j))
+      (sym (tells_apart keys_exact k (key e) own)) (there ∙ sym stays.0, stays.1)) (λ other.
+      let keyed : of_key whole k ≡ of_key rest k = picked_other (λ x. eq_by_cmp key_cmp k (key x)) a e c other in (
+        known whole k ∙ ap (λ l. is_some (first l)) keyed ∙ sym (known rest k),
+        value_is whole k ∙ (λ i. value_from k.1 (keyed i) (mailed k i)) ∙ sym (value_is rest k),
+      )) (cases_Bool (eq_by_cmp key_cmp k (key e)))
     where
-      some_of : (x y : Option Fields) → is_some (option_or (option_or y (Some (new_fields e))) x) ≡ true
-      some_of x None = refl
-      some_of x (Some z) = refl
+      mailed : (k : Key) → spelled (of_email whole k.0) ≡ spelled (of_email rest k.0)
+      mailed k = ⊎_elim (λ own. subst (λ t. spelled (of_email whole t) ≡ spelled (of_email rest t))
+          (sym (tells_apart exact_bytes k.0 (folded e.old_email) own))
+          (sym (old_email_is whole (key e)) ∙ ap (λ x. x.old_email) stays.1 ∙ old_email_is rest (key e)))
+          (λ other. ap spelled (picked_other (λ x. eq_by_cmp text_cmp k.0 (folded x.old_email)) a e c other))
+          (cases_Bool (eq_by_cmp text_cmp k.0 (folded e.old_email)))
 
-  -- the condition that is_redundant decides
-  abbrev Same : Type 0
-  Same =
-      ((is_some (last_fields a (key e)) || is_some (last_fields c (key e))) ≡ true)
-      × ((option_or (spelling a (key e).0) (option_or (Some e.old_email) (spelling c (key e).0)) ≡ option_or (spelling a (key e).0) (spelling c (key e).0))
-      × SameValue e.old_name (joined_summary (key_summary a (key e)) (joined_summary (own_summary e) (key_summary c (key e)))) (joined_summary (key_summary a (key e)) (key_summary c (key e))))
-
-  same_decides : Decides (is_redundant (summary a (key e)) e (summary c (key e))) Same
-  same_decides =
-      Decides-and _ _ (λ x. x, λ x. x)
-      (Decides-and _ _ (first_decides (spelling a (key e).0) e.old_email (spelling c (key e).0)) (value_decides (key_summary a (key e)) e (summary c (key e))))
-
-  alike_same : Alike (a ++ e ∷ c) (a ++ c) → Same
-  alike_same alike = (
-    sym (there_parts a c (key e)) ∙ sym (alike.keys (key e)) ∙ there_own,
-    (
-      sym (spelling_around a e c good) ∙ alike.spellings (folded e.old_email) ∙ spelling_parts a c (folded e.old_email),
-      (let p = summary_around a e c good in let q = summary_parts a c (key e) in
-          subst (λ s. SameValue e.old_name s (joined_summary (key_summary a (key e)) (key_summary c (key e)))) p
-          (subst (λ s. SameValue e.old_name (key_summary (a ++ e ∷ c) (key e)) s) q (alike_value (a ++ e ∷ c) (a ++ c) alike (folded e.old_email) e.old_name))),
+  pub key_decides : IsRedundant a e c ↔ KeyStays
+  key_decides = (
+    λ redundant.
+        let alike = redundant_alike a e c redundant in
+        (sym (alike.keys (key e)) ∙ there, same_value whole rest alike (key e)),
+    λ stays n. (
+      same_values whole rest n (λ k. (each stays k).0) (λ k _. (each stays k).1),
+      same_values rest whole n (λ k. sym (each stays k).0) (λ k _. sym (each stays k).1),
     ),
   )
 
-  same_alike : Same → Alike (a ++ e ∷ c) (a ++ c)
-  same_alike same =
-      record {
-        keys = λ k. by (eq_by_cmp key_cmp k (key e)) (λ own. subst (λ k. has_key (accepted (a ++ e ∷ c)) k ≡ has_key (accepted (a ++ c)) k) (sym (own_key k own)) (there_own ∙ sym same.0 ∙ sym (there_parts a c (key e))))
-            (λ other. known (a ++ e ∷ c) k ∙ ap (λ l. is_some (first l)) (of_key_without a e c k other) ∙ sym (known (a ++ c) k));
-        spellings = λ email. by (eq_by_cmp text_cmp email (folded e.old_email))
-            (λ own. subst (λ t. spelling (a ++ e ∷ c) t ≡ spelling (a ++ c) t) (sym (exact_bytes email (folded e.old_email) ((Equal-is (text_cmp email (folded e.old_email))).0 own))) (spelling_around a e c good ∙ same.1.0 ∙ sym (spelling_parts a c (folded e.old_email))))
-            (λ other. spelling_without a e c email other);
-        given = λ email. by (eq_by_cmp key_cmp (email, None) (key e))
-            (λ own. let q = own_key (email, None) own in let w = nameless (key_summary (a ++ e ∷ c) (key e)) (key_summary (a ++ c) (key e)) e.old_name (sym (ap (λ k. k.1) q)) value in
-            λ i. record {
-              name = subst (λ k. (key_summary (a ++ e ∷ c) k).name ≡ (key_summary (a ++ c) k).name) (sym q) w.0 i;
-              email = subst (λ k. (key_summary (a ++ e ∷ c) k).email ≡ (key_summary (a ++ c) k).email) (sym q) w.1 i;
-            })
-            (λ other. λ i. record { name = (summary_without a e c (email, None) other i).name; email = (summary_without a e c (email, None) other i).email });
-        lasts = λ email name. by (eq_by_cmp key_cmp (email, Some name) (key e))
-            (λ own. let q = own_key (email, Some name) own in
-            subst (λ k. (key_summary (a ++ e ∷ c) k).last ≡ (key_summary (a ++ c) k).last) (sym q) ((named (key_summary (a ++ e ∷ c) (key e)) (key_summary (a ++ c) (key e)) e.old_name name (sym (ap (λ k. k.1) q)) value).1))
-            (λ other. ap (λ s. s.last) (summary_without a e c (email, Some name) other));
-        names = λ email name.
-            named_first (a ++ e ∷ c) email name
-            ∙ ap (option_map (λ t. Some t)) (by (eq_by_cmp key_cmp (email, Some name) (key e))
-            (λ own. let q = own_key (email, Some name) own in
-            subst (λ k. (key_summary (a ++ e ∷ c) k).old_name ≡ (key_summary (a ++ c) k).old_name) (sym q) ((named (key_summary (a ++ e ∷ c) (key e)) (key_summary (a ++ c) (key e)) e.old_name name (sym (ap (λ k. k.1) q)) value).0))
-            (λ other. ap (λ s. s.old_name) (summary_without a e c (email, Some name) other)))
-            ∙ sym (named_first (a ++ c) email name);
-      }
-    where
-      by : {G : Type 0} (b : Bool) → (b ≡ true → G) → (b ≡ false → G) → G
-      by true own other = own refl
-      by false own other = other refl
+-- ---- what entries say of a key
 
-      own_key : (k : Key) → eq_by_cmp key_cmp k (key e) ≡ true → k ≡ key e
-      own_key k own = keys_exact k (key e) ((Equal-is (key_cmp k (key e))).0 own)
+abbrev pub LocatedMappings : Type 0
+LocatedMappings = List LocatedMapping
 
-      value : SameValue e.old_name (key_summary (a ++ e ∷ c) (key e)) (key_summary (a ++ c) (key e))
-      value = grind (arith, summary_around, summary_parts)
+abbrev pub good : LocatedMappings → LocatedMappings
+good xs = filter (λ x. is_accepted x.entry) xs
 
-      nameless : (s t : KeySummary) (o : Option Text) → option_map folded o ≡ None → SameValue o s t → (s.name ≡ t.name) × (s.email ≡ t.email)
-      nameless s t None is v = v
-      nameless s t (Some w) is v = cc
+pub keyed_good : (xs : LocatedMappings) (k : Key) → of_key (entries xs) k ≡ entries (entries_of_key (good xs) k)
+keyed_good xs k = search (rules, filter-map)
 
-      named : (s t : KeySummary) (o : Option Text) (name : Text) → option_map folded o ≡ Some name → SameValue o s t → (s.old_name ≡ t.old_name) × (s.last ≡ t.last)
-      named s t None name is v = cc
-      named s t (Some w) name is v = v
+pub mailed_good : (xs : LocatedMappings) (email : Text)
+    → of_email (entries xs) email ≡ entries (entries_of_email (good xs) email)
+mailed_good xs email = search (rules, filter-map)
 
-  -- is_redundant decides it for an accepted entry
-  pub redundant_decides : Decides (is_redundant (summary a (key e)) e (summary c (key e))) (IsRedundant a e c)
-  redundant_decides =
-      grind (arith, Decides-like, alike_redundant, same_alike, alike_same, redundant_alike, same_decides)
+pub none_of_key : (xs : LocatedMappings) (k : Key) → entries_of_email xs k.0 ≡ [] → entries_of_key xs k ≡ []
+none_of_key xs k = search (rules, none_passes, of_its_email)
+
+pub last_is : {X : Type 0} (P : X → Type 0) (xs : List X) → AllByRecursion P xs → IfSome (last xs) P
+last_is P [] all = tt
+last_is P (x ∷ xs) all = all_last P x xs all.0 all.1
+
+pub last_passes : {X : Type 0} (p : X → Bool) (xs : List X) → IfSome (last (filter p xs)) (λ x. p x ≡ true)
+last_passes p xs = last_is (λ x. p x ≡ true) (filter p xs) (recursion_from_All _ _ (filter_passes p xs))
+
+-- the last value of a field, by the entry that sets it
+pub given_last : (f : Mapping → Option Text) (xs : LocatedMappings)
+    → last_given f (entries xs) ≡ option_and_then (λ x. f x.entry) (last_with f xs)
+given_last f [] = refl
+given_last f (x ∷ xs) =
+    let some = last_passes (λ x. is_some (f x.entry)) xs in grind (arith, given_last f xs, some)
+
+said_value : (o : Option Text) (l m : LocatedMappings) → value_from o (entries l) (spelled (entries m))
+    ≡ value_said (is_some o) (record { of_key = key_origins l; spelling = first m })
+said_value o l m = search (rules, given_last, last-map, spelled, value_from)
+
+-- what the accepted entries say
+abbrev pub told : LocatedMappings → Key → Said
+told xs k = said (good xs) k
+
+value_by : (xs : LocatedMappings) (k : Key) → value (entries xs) k ≡ value_said (is_some k.1) (told xs k)
+value_by xs k = search (rules, mailed_good, keyed_good, said_value, spelled, value_from, value_is)
+
+pub there_by : (xs : LocatedMappings) (k : Key) → has_key (accepted (entries xs)) k ≡ is_some (told xs k).of_key.last
+there_by xs k = known (entries xs) k ∙ ap (λ l. is_some (first l)) (keyed_good xs k) ∙ some (entries_of_key (good xs) k)
+  where
+    some : (l : LocatedMappings) → is_some (first (entries l)) ≡ is_some (last l)
+    some [] = refl
+    some (x ∷ l) = refl
+
+told_parts : (xs ys : LocatedMappings) (k : Key) → told (xs ++ ys) k ≡ joined_said (told xs k) (told ys k)
+told_parts xs ys k = simp (filter-append, first-append, last-append)
+
+told_own : (x : LocatedMapping) → is_accepted x.entry ≡ true → told (x ∷ []) (key x.entry) ≡ said_of_one x
+told_own x accepted = search (rules, own_email, own_key)
+
+-- without x between what is said before and after it, its key is still there, and its value is the same
+pub record Stays (is_named : Bool) (before : Said) (x : LocatedMapping) (after : Said) : Type 0 where
+  pub there : is_some (joined_said before after).of_key.last ≡ true
+  pub same : value_said is_named (joined_said (joined_said before (said_of_one x)) after)
+      ≡ value_said is_named (joined_said before after)
+
+module _ (a : LocatedMappings) (x : LocatedMapping) (c : LocatedMappings) (fine : is_accepted x.entry ≡ true) where
+  abbrev k : Key
+  k = key x.entry
+
+  abbrev before : Said
+  before = told a k
+
+  abbrev after : Said
+  after = told c k
+
+  abbrev is_named : Bool
+  is_named = is_some x.entry.old_name
+
+  named : is_some k.1 ≡ is_named
+  named = sym (is_some-option_map folded x.entry.old_name)
+
+  around : told (a ++ x ∷ c) k ≡ joined_said (joined_said before (said_of_one x)) after
+  around = ap (λ l. told l k) (sym (append_assoc a (x ∷ []) c)) ∙ told_parts (a ++ x ∷ []) c k
+      ∙ ap (λ s. joined_said s after) (told_parts a (x ∷ []) k ∙ ap (joined_said before) (told_own x fine))
+
+  left : value (entries a ++ x.entry ∷ entries c) k
+      ≡ value_said is_named (joined_said (joined_said before (said_of_one x)) after)
+  left = ap (λ h. value h k) (sym (map-append (λ (y : LocatedMapping). y.entry) a (x ∷ c)))
+      ∙ value_by (a ++ x ∷ c) k ∙ (λ i. value_said (named i) (around i))
+
+  joined : entries a ++ entries c ≡ entries (a ++ c)
+  joined = sym (map-append (λ (y : LocatedMapping). y.entry) a c)
+
+  right : value (entries a ++ entries c) k ≡ value_said is_named (joined_said before after)
+  right = ap (λ h. value h k) joined ∙ value_by (a ++ c) k ∙ (λ i. value_said (named i) (told_parts a c k i))
+
+  has : has_key (accepted (entries a ++ entries c)) k ≡ is_some (joined_said before after).of_key.last
+  has = ap (λ h. has_key (accepted h) k) joined ∙ there_by (a ++ c) k
+      ∙ ap (λ (s : Said). is_some s.of_key.last) (told_parts a c k)
+
+  pub stays_decides : IsRedundant (entries a) x.entry (entries c) ↔ Stays is_named before x after
+  stays_decides =
+      let decides = key_decides (entries a) x.entry (entries c) fine in (
+        λ redundant.
+            let stays = decides.0 redundant in
+            record { there = sym has ∙ stays.0; same = sym left ∙ stays.1 ∙ right },
+        λ stays. decides.1 (has ∙ stays.there, left ∙ stays.same ∙ sym right),
+      )
+
+  pub said_decides : Decides (is_redundant before x after) (IsRedundant (entries a) x.entry (entries c))
+  said_decides =
+      let same = entry_decides _ _ in (
+        λ yes.
+            let both = and_parts (is_some (joined_said before after).of_key.last) _ yes in
+            stays_decides.1 (record { there = both.0; same = same.0 both.1 }),
+        λ redundant.
+            let stays = stays_decides.0 redundant in
+            and_from (is_some (joined_said before after).of_key.last) _ stays.there (same.1 stays.same),
+      )
+
+-- each entry is redundant or not
+pub redundant_or_not : (a : LocatedMappings) (x : LocatedMapping) (c : LocatedMappings)
+    → IsRedundant (entries a) x.entry (entries c) ⊎ (IsRedundant (entries a) x.entry (entries c) → ⊥)
+redundant_or_not a x c = ⊎_elim (λ fine.
+    let decides = said_decides a x c fine in
+    ⊎_elim (λ yes. inl (decides.0 yes)) (λ no. inr (λ redundant. true≢false (sym (decides.1 redundant) ∙ no)))
+    (cases_Bool (is_redundant (told a (key x.entry)) x (told c (key x.entry)))))
+    (λ bad. inl (unaccepted_redundant (entries a) x.entry (entries c) bad)) (cases_Bool (is_accepted x.entry))

@@ -1,49 +1,37 @@
--- The rows of a table, and the entries before and after the index of a loop.
-use Rattle.std.proofs.Common.{◌≡◌, ◌<◌, ◌+◌, ℕ, true, cond, List, [], ◌∷◌, ◌++◌, take, drop, length, get_or, refl, sym, ap, subst, ◌∙◌, ◌≢◌, Bool, false, filter, is_some, set, replicate, Option, Some, append-nil, arith}
-use Rattle.std.specs.Prelude.{Contains}
+-- The rows of a table, what summaries decide, the loop of one pass, and passes until one drops nothing.
+use Rattle.std.proofs.lemmas.Grind.{common_steps, get_or-set_at}
+use Rattle.std.proofs.Common.{rules, ◌≡◌, ◌<◌, ◌+◌, ◌≢◌, ℕ, Bool, true, false, cond, List, [], ◌∷◌, ◌++◌, filter, take, drop, length, get_or, set, append-nil, inl, inr, refl, sym, ap, subst, ◌∙◌, arith, true≢false, map, ◌≤◌}
+use Rattle.std.specs.Prelude.{Contains, All}
 use Rattle.std.specs.List.{AllByRecursion}
-use Rattle.std.proofs.lemmas.List.{map-append, map_more, drop_more, length-set, get_or-set_other, length-replicate, get_or-replicate}
-use Rattle.std.proofs.lemmas.Option.{slice_get_within, get_or_from_slice_get}
-use Rattle.mailmap_entries.specs.Folding.{Text, folded, text_cmp}
-use Rattle.mailmap_entries.specs.Semantics.{Key, is_accepted, key, first, key_cmp, last}
-use Rattle.mailmap_redundancy.specs.Origins.{entries_of_email, last_with}
-use Rattle.mailmap_redundancy.specs.Redundancy.{LocatedMapping, entries, entries_of_key}
-use Rattle.mailmap_redundancy.specs.Numbers.{IsKnown, IsNumber, IsNumbered, email_key, located_entry_of, mappings, IsTableOf, joined_origins, key_origins}
-use Rattle.mailmap_redundancy.specs.declared.numbers.NumberedEntry.{NumberedEntry}
-use Rattle.mailmap_redundancy.proofs.Keyed.{unequal_emails, unequal_keys, same_number, some_out}
-use Rattle.std.specs.Cmp.{tied_itself}
-use Rattle.std.specs.Cmp.Lexicographic.{nat_list_cmp_total}
 use Rattle.std.specs.List.Sorted.{IsStrictlySortedBy}
-use Rattle.std.specs.Option.{option_or}
-use Rattle.std.specs.Ordering.{eq_by_cmp, is_eq}
 use Rattle.std.proofs.lemmas.Bool.{eqb-true, eqb-false}
-use Rattle.std.proofs.lemmas.Grind.{get_or-set_at}
-use Rattle.std.proofs.lemmas.List.Elements.{filter-append}
-use Rattle.mailmap_entries.specs.Entries.{Mapping}
-use Rattle.mailmap_entries.proofs.Keys.{keys_total}
-use Rattle.mailmap_entries.proofs.Parts.{first-append, last-append}
+use Rattle.std.proofs.lemmas.List.{map_more, drop_more, length-set, get_or-set_other, map-append, map_push}
+use Rattle.std.proofs.lemmas.List.Elements.{filter-append, All-drop, All-push, recursion_from_All}
+use Rattle.std.proofs.lemmas.Option.{same_Some, slice_get_within, get_or_from_slice_get}
+use Rattle.mailmap_entries.specs.Folding.{Text, folded}
+use Rattle.mailmap_entries.specs.Semantics.{Key, is_accepted, key, key_cmp}
+use Rattle.mailmap_entries.proofs.Parts.{all_append, all_weaker, first-append, last-append, all_mapped}
+use Rattle.mailmap_redundancy.specs.Origins.{entries_of_email}
+use Rattle.mailmap_redundancy.specs.Redundancy.{LocatedMapping, entries_of_key, IsPass, IsRedundant, goes, stays, entries, AreEffective, settled, again}
+use Rattle.mailmap_redundancy.specs.Numbers.{IsKnown, IsNumber, IsNumbered, IsTableOf, IsWith, email_key, joined_said, located_entry_of, mappings, said, said_of_one, IsTable, entry_of, is_redundant, said_after_each, said_of}
+use Rattle.mailmap_redundancy.specs.declared.keys.NumberedEntry.{NumberedEntry}
+use Rattle.mailmap_redundancy.proofs.Numbered.{unequal_emails, unequal_keys, same_number}
+use Rattle.mailmap_redundancy.proofs.Redundant.{own_email, own_key, said_decides}
+use Rattle.std.specs.Bool.{Decides}
+use Rattle.mailmap_redundancy.specs.declared.table.Summary.{Summary}
+use Rattle.mailmap_redundancy.specs.declared.table.Table.{Table}
+use Rattle.mailmap_redundancy.proofs.Kept.{all_good as good_itself, pass_whole}
 
 -- ---- one step
 
 -- the entries before the index after one step forwards, and those from it on after one step backwards
 pub mappings_more : (xs : List NumberedEntry) (i : ℕ) (x : NumberedEntry) → i < length xs → x ≡ get_or xs i x
     → mappings (take (i + 1) xs) ≡ mappings (take i xs) ++ located_entry_of x ∷ []
-mappings_more xs i x within is =
-    map_more located_entry_of xs i x within ∙ ap (λ y. mappings (take i xs) ++ located_entry_of y ∷ []) (sym is)
+mappings_more xs i x within is = grind (arith, common_steps, map_more)
 
 pub mappings_next : (xs : List NumberedEntry) (i j : ℕ) (x : NumberedEntry) → i < length xs → x ≡ get_or xs i x
     → j ≡ i + 1 → mappings (drop i xs) ≡ located_entry_of x ∷ mappings (drop j xs)
-mappings_next xs i j x within is next =
-    ap mappings (drop_more xs i x within) ∙ (λ k. located_entry_of (is' k) ∷ mappings (drop (next' k) xs))
-  where
-    is' : get_or xs i x ≡ x
-    is' = sym is
-
-    next' : i + 1 ≡ j
-    next' = sym next
-
-pub entries-more : (xs : List LocatedMapping) (x : LocatedMapping) → entries (xs ++ x ∷ []) ≡ entries xs ++ x.entry ∷ []
-entries-more xs x = map-append (λ y. y.entry) xs (x ∷ [])
+mappings_next xs i j x within is next = search (rules, drop_more)
 
 pub same_ends : {X : Type 0} (xs ys : List X) (x y : X) → xs ++ x ∷ [] ≡ ys ++ y ∷ [] → (xs ≡ ys) × (x ≡ y)
 same_ends [] [] x y e = (refl, cc)
@@ -51,11 +39,7 @@ same_ends [] (b ∷ []) x y e = absurd (cc)
 same_ends [] (b ∷ c ∷ ys) x y e = absurd (cc)
 same_ends (a ∷ []) [] x y e = absurd (cc)
 same_ends (a ∷ c ∷ xs) [] x y e = absurd (cc)
-same_ends (a ∷ xs) (b ∷ ys) x y e =
-    let tails : xs ++ x ∷ [] ≡ ys ++ y ∷ [] = cc in
-    let heads : a ≡ b = cc in
-    let rest = same_ends xs ys x y tails in
-    (λ i. heads i ∷ rest.0 i, rest.1)
+same_ends (a ∷ xs) (b ∷ ys) x y e = grind (arith, common_steps)
 
 -- ---- keys that are there, and keys that are not
 
@@ -63,30 +47,25 @@ contained : (ks : List Key) (k : Key) (i : ℕ) → IsNumber ks k i → Contains
 contained ks k i is = (i, slice_get_within ks i k is, get_or_from_slice_get ks i k k is)
 
 pub known : (ks : List Key) (x : NumberedEntry) → IsNumbered ks x → IsKnown ks (located_entry_of x)
-known ks x n =
-    record { own = contained ks _ x.key n.own; of_email = contained ks _ x.email n.of_email; accepted = n.accepted }
+known ks x n = search (rules, contained)
 
 pub none_of_unknown : (ks : List Key) (k : Key) → (Contains ks k → ⊥) → (xs : List LocatedMapping)
     → AllByRecursion (IsKnown ks) xs → entries_of_key xs k ≡ []
 none_of_unknown ks k none [] all = refl
 none_of_unknown ks k none (x ∷ xs) all =
-    ap (λ b. cond b (x ∷ entries_of_key xs k) (entries_of_key xs k))
-    (unequal_keys k (key x.entry) (λ same. none (subst (Contains ks) (sym same) all.0.own)))
-    ∙ none_of_unknown ks k none xs all.1
+    let other = unequal_keys k (key x.entry) (λ same. none (rw same all.0.own)) in
+    grind (arith, other, (none_of_unknown ks k none xs all.1))
 
 pub none_of_unknown_email : (ks : List Key) (email : Text) → (Contains ks (email_key email) → ⊥)
     → (xs : List LocatedMapping) → AllByRecursion (IsKnown ks) xs → entries_of_email xs email ≡ []
 none_of_unknown_email ks email none [] all = refl
 none_of_unknown_email ks email none (x ∷ xs) all =
-    ap (λ b. cond b (x ∷ entries_of_email xs email) (entries_of_email xs email))
-    (unequal_emails email (folded x.entry.old_email)
-    (λ same. none (subst (λ t. Contains ks (email_key t)) (sym same) all.0.of_email)))
-    ∙ none_of_unknown_email ks email none xs all.1
+    let other = unequal_emails email (folded x.entry.old_email) (λ same. none (rw same all.0.of_email)) in
+    grind (arith, other, (none_of_unknown_email ks email none xs all.1))
 
 pub all_accepted : (ks : List Key) (xs : List LocatedMapping) → AllByRecursion (IsKnown ks) xs
     → AllByRecursion (λ x. is_accepted x.entry ≡ true) xs
-all_accepted ks [] all = tt
-all_accepted ks (x ∷ xs) all = (all.0.accepted, all_accepted ks xs all.1)
+all_accepted ks xs = all_weaker {P = IsKnown ks} xs (λ x is. is.accepted)
 
 -- ---- one row
 
@@ -95,96 +74,127 @@ pub row_changed : {X Y Z : Type 0} (keys : List Key) (key_of : X → Key) (view 
     (x : X) (i : ℕ) (z : Z) → IsStrictlySortedBy key_cmp keys → ((a b : X) → key_of a ≡ key_of b → a ≡ b)
     → IsTableOf keys key_of f view rows → IsNumber keys (key_of x) i
     → view z ≡ g x → ((y : X) → y ≢ x → g y ≡ f y) → IsTableOf keys key_of g view (set rows i z)
-row_changed {X} keys key_of view f g rows x i z up one table is new others y j n =
-    grind (arith, eqb-true, some_out, length-set, get_or-set_at, eqb-false, same_number, get_or-set_other)
-
--- before the first entry, all rows of the table are equal
-pub blank : {X Y Z : Type 0} (keys : List Key) (key_of : X → Key) (view : Z → Y) (f : X → Y) (z : Z)
-    (rows : List Z) (n : ℕ) → rows ≡ replicate n z → n ≡ length keys → ((x : X) → view z ≡ f x) → IsTableOf keys key_of f view rows
-blank keys key_of view f z rows n is counted says x i number =
-    grind (arith, slice_get_within, length-replicate, get_or-replicate)
+row_changed {X} keys key_of view f g rows x i z up one table is new others y j n = search (rules, eqb-false, eqb-true, get_or-set_at, get_or-set_other, length-set, same_number, same_Some)
 
 -- ---- appending an entry, and prepending one
 
 pub email_keys : (a b : Text) → email_key a ≡ email_key b → a ≡ b
 email_keys a b e = ap (λ k. k.0) e
 
-pub origins_parts : (xs ys : List LocatedMapping)
-    → key_origins (xs ++ ys) ≡ joined_origins (key_origins xs) (key_origins ys)
-origins_parts xs ys =
-    λ i. record {
-      old_name = (let p : LocatedMapping → Bool = λ x. is_some x.entry.old_name in
-          ap first (filter-append p xs ys) ∙ first-append (filter p xs) (filter p ys)) i;
-      name = with_parts (λ e. e.new_name) i;
-      email = with_parts (λ e. e.new_email) i;
-      last = last-append xs ys i;
-    }
-  where
-    with_parts : (f : Mapping → Option Text) → last_with f (xs ++ ys) ≡ option_or (last_with f ys) (last_with f xs)
-    with_parts f =
-        let p : LocatedMapping → Bool = λ x. is_some (f x.entry) in
-        ap last (filter-append p xs ys) ∙ last-append (filter p xs) (filter p ys)
+pub said_parts : (xs ys : List LocatedMapping) (k : Key) → said (xs ++ ys) k ≡ joined_said (said xs k) (said ys k)
+said_parts xs ys k = simp (filter-append, first-append, last-append)
 
--- a filter's result with one more entry
-module _ (p : LocatedMapping → Bool) (xs : List LocatedMapping) (x : LocatedMapping) where
-  picked_after : p x ≡ true → filter p (xs ++ x ∷ []) ≡ filter p xs ++ x ∷ []
-  picked_after is = filter-append p xs (x ∷ []) ∙ ap (λ b. filter p xs ++ cond b (x ∷ []) []) is
-
-  others_after : p x ≡ false → filter p (xs ++ x ∷ []) ≡ filter p xs
-  others_after isn't =
-      filter-append p xs (x ∷ []) ∙ ap (λ b. filter p xs ++ cond b (x ∷ []) []) isn't ∙ append-nil (filter p xs)
-
-  picked_before : p x ≡ true → filter p (x ∷ xs) ≡ x ∷ filter p xs
-  picked_before is = ap (λ b. cond b (x ∷ filter p xs) (filter p xs)) is
-
-  others_before : p x ≡ false → filter p (x ∷ xs) ≡ filter p xs
-  others_before isn't = ap (λ b. cond b (x ∷ filter p xs) (filter p xs)) isn't
+said_own : (x : LocatedMapping) → said (x ∷ []) (key x.entry) ≡ said_of_one x
+said_own x = search (rules, own_email, own_key)
 
 module _ (xs : List LocatedMapping) (x : LocatedMapping) where
-  abbrev of_key : Key → LocatedMapping → Bool
-  of_key k y = eq_by_cmp key_cmp k (key y.entry)
+  pub said_after : said (xs ++ x ∷ []) (key x.entry) ≡ joined_said (said xs (key x.entry)) (said_of_one x)
+  said_after = said_parts xs (x ∷ []) (key x.entry) ∙ ap (joined_said (said xs (key x.entry))) (said_own x)
 
-  abbrev of_email : Text → LocatedMapping → Bool
-  of_email email y = eq_by_cmp text_cmp email (folded y.entry.old_email)
+  pub said_before : said (x ∷ xs) (key x.entry) ≡ joined_said (said_of_one x) (said xs (key x.entry))
+  said_before = said_parts (x ∷ []) xs (key x.entry) ∙ ap (λ s. joined_said s (said xs (key x.entry))) (said_own x)
 
-  own_key : of_key (key x.entry) x ≡ true
-  own_key = ap is_eq (tied_itself keys_total (key x.entry))
+  -- an entry that fails the filter's test doesn't matter
+  pub not_with : (p : LocatedMapping → Bool) (ys : List LocatedMapping) → IsWith xs x ys → p x ≡ false
+      → filter p ys ≡ filter p xs
+  not_with p ys (inl after) isn't = search (rules, append-nil, filter-append)
+  not_with p ys (inr before) isn't = ap (filter p) before ∙ ap (λ b. cond b (x ∷ filter p xs) (filter p xs)) isn't
 
-  own_email : of_email (folded x.entry.old_email) x ≡ true
-  own_email = ap is_eq (tied_itself nat_list_cmp_total (folded x.entry.old_email))
+  pub all_with : (P : LocatedMapping → Type 0) (ys : List LocatedMapping) → IsWith xs x ys → AllByRecursion P xs → P x
+      → AllByRecursion P ys
+  all_with P ys (inl after) all is = rw after (all_append P xs (x ∷ []) all (is, tt))
+  all_with P ys (inr before) all is = rw before (is, all)
 
-  abbrev before : List LocatedMapping
-  before = entries_of_key xs (key x.entry)
+-- ---- one pass
 
-  pub origins_after : key_origins (entries_of_key (xs ++ x ∷ []) (key x.entry))
-      ≡ joined_origins (key_origins before) (key_origins (x ∷ []))
-  origins_after = ap key_origins (picked_after (of_key (key x.entry)) xs x own_key) ∙ origins_parts before (x ∷ [])
+abbrev IsGood : LocatedMapping → Type 0
+IsGood x = is_accepted x.entry ≡ true
 
-  pub origins_before : key_origins (entries_of_key (x ∷ xs) (key x.entry))
-      ≡ joined_origins (key_origins (x ∷ [])) (key_origins before)
-  origins_before = ap key_origins (picked_before (of_key (key x.entry)) xs x own_key) ∙ origins_parts (x ∷ []) before
+all_good : (keys : List Key) (all : List NumberedEntry) (i : ℕ) → All (IsNumbered keys) all
+    → AllByRecursion IsGood (mappings (drop i all))
+all_good keys all i n =
+    let after = recursion_from_All (IsNumbered keys) (drop i all) (All-drop (IsNumbered keys) i all n) in
+    search (rules, all_mapped, all_weaker)
 
-  pub first_after : first (entries_of_email (xs ++ x ∷ []) (folded x.entry.old_email))
-      ≡ option_or (first (entries_of_email xs (folded x.entry.old_email))) (Some x)
-  first_after = grind (arith, picked_after, own_email, first-append)
+-- The state before entry i: what is left of the result of each_later, the table of the kept entries, and the fact that
+-- a pass over the remaining entries completes the whole pass.
+pub record IsPassing (keys : List Key) (all : List NumberedEntry) (i : ℕ) (later_ones : List Summary) (before : Table)
+    (kept : List NumberedEntry) : Type 0 where
+  pub asked : map said_of later_ones ≡ said_after_each (mappings (drop i all))
+  pub table : IsTable keys (mappings kept) before
+  pub numbered : All (IsNumbered keys) kept
+  pub left : (out : List LocatedMapping) → IsPass (mappings kept) (mappings (drop i all)) out
+      → IsPass [] (mappings all) out
 
-  pub first_before : first (entries_of_email (x ∷ xs) (folded x.entry.old_email)) ≡ Some x
-  first_before = ap first (picked_before (of_email (folded x.entry.old_email)) xs x own_email)
+module _ (keys : List Key) (all : List NumberedEntry) (numbered : All (IsNumbered keys) all) (i : ℕ) (x : NumberedEntry)
+    (within : i < length all) (is : x ≡ get_or all i x) (n : IsNumbered keys x) (later_ones : List Summary)
+    (before : Table) (kept : List NumberedEntry) (so : IsPassing keys all i later_ones before kept)
+    (left : List Summary) (later : Summary) (popped : later_ones ≡ left ++ later ∷ []) where
+  abbrev rest : List LocatedMapping
+  rest = mappings (drop (i + 1) all)
 
-  pub not_after : (k : Key) → k ≢ key x.entry
-      → key_origins (entries_of_key (xs ++ x ∷ []) k) ≡ key_origins (entries_of_key xs k)
-  not_after k other = ap key_origins (others_after (of_key k) xs x (unequal_keys k (key x.entry) other))
+  next : mappings (drop i all) ≡ located_entry_of x ∷ rest
+  next = mappings_next all i (i + 1) x within is refl
 
-  pub not_before : (k : Key) → k ≢ key x.entry
-      → key_origins (entries_of_key (x ∷ xs) k) ≡ key_origins (entries_of_key xs k)
-  not_before k other = ap key_origins (others_before (of_key k) xs x (unequal_keys k (key x.entry) other))
+  ends : (map said_of left ≡ said_after_each rest) × (said_of later ≡ said rest (key (entry_of x)))
+  ends = same_ends (map said_of left) (said_after_each rest) (said_of later) (said rest (key (entry_of x)))
+      (sym (map-append said_of left (later ∷ [])) ∙ ap (map said_of) (sym popped) ∙ so.asked ∙ ap said_after_each next)
 
-  pub not_first_after : (email : Text) → email ≢ folded x.entry.old_email
-      → first (entries_of_email (xs ++ x ∷ []) email) ≡ first (entries_of_email xs email)
-  not_first_after email other =
-      ap first (others_after (of_email email) xs x (unequal_emails email (folded x.entry.old_email) other))
+  abbrev test : Bool
+  test = is_redundant (said (mappings kept) (key (entry_of x))) (located_entry_of x) (said_of later)
 
-  pub not_first_before : (email : Text) → email ≢ folded x.entry.old_email
-      → first (entries_of_email (x ∷ xs) email) ≡ first (entries_of_email xs email)
-  not_first_before email other =
-      ap first (others_before (of_email email) xs x (unequal_emails email (folded x.entry.old_email) other))
+  decides : Decides test (IsRedundant (entries (mappings kept)) (entry_of x) (entries rest))
+  decides = subst (λ s. Decides (is_redundant (said (mappings kept) (key (entry_of x))) (located_entry_of x) s)
+      (IsRedundant (entries (mappings kept)) (entry_of x) (entries rest))) (sym ends.1)
+      (subst (λ (l : List LocatedMapping × List LocatedMapping). Decides (is_redundant (said l.0 (key (entry_of x)))
+      (located_entry_of x) (said l.1 (key (entry_of x)))) (IsRedundant (entries (mappings kept)) (entry_of x) (entries rest)))
+      (λ j. (
+        good_itself (mappings kept) (all_accepted keys (mappings kept) so.table.known) j,
+        good_itself rest (all_good keys all (i + 1) numbered) j,
+      ))
+      (said_decides (mappings kept) (located_entry_of x) rest n.accepted))
+
+  pub going : test ≡ true → IsPassing keys all (i + 1) left before kept
+  going redundant = record {
+    asked = ends.0;
+    table = so.table;
+    numbered = so.numbered;
+    left = λ out p. so.left out (rw next (goes (mappings kept) (located_entry_of x) rest out (decides.0 redundant) p));
+  }
+
+  pub staying : (after : Table) (kept' : List NumberedEntry) → test ≡ false → kept' ≡ kept ++ x ∷ []
+      → IsTable keys (mappings kept ++ located_entry_of x ∷ []) after → IsPassing keys all (i + 1) left after kept'
+  staying after kept' works pushed table =
+      let grown : mappings kept' ≡ mappings kept ++ located_entry_of x ∷ [] =
+      ap mappings pushed ∙ map_push located_entry_of kept x in
+      record {
+        asked = ends.0;
+        table = rw grown table;
+        numbered = rw pushed (All-push (IsNumbered keys) kept x so.numbered n);
+        left = λ out p. so.left out (rw next (stays (mappings kept) (located_entry_of x) rest out
+            (λ redundant. true≢false (sym (decides.1 redundant) ∙ works)) (rw (← grown) p)));
+      }
+
+-- ---- repeated passes
+
+-- the last pass went over `len` entries, and kept the entries `kept`; passes before it may have dropped others
+pub record IsSettling (history : List LocatedMapping) (len : ℕ) (kept : List LocatedMapping) : Type 0 where
+  pub some : List LocatedMapping
+  pub counted : length some ≡ len
+  pub passed : IsPass [] some kept
+  pub rest : (out : List LocatedMapping) → AreEffective some out → AreEffective history out
+
+pub further : (history kept more : List LocatedMapping) (len n : ℕ) → IsSettling history len kept → length kept ≡ n
+    → IsPass [] kept more → IsSettling history n more
+further history kept more len n so counted passed = record {
+  some = kept;
+  counted = counted;
+  passed = passed;
+  rest = λ out s. so.rest out (again so.some kept out so.passed s);
+}
+
+pub over : (history kept : List LocatedMapping) (len : ℕ) → IsSettling history len kept → len ≤ length kept
+    → AreEffective history kept
+over history kept len so many =
+    let all : kept ≡ so.some = (pass_whole [] so.some kept so.passed (omega (arith, so.counted))).0 in
+    so.rest kept (rw (← all) (settled kept (subst (λ l. IsPass [] l kept) (sym all) so.passed)))

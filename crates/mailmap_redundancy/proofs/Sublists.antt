@@ -27,6 +27,11 @@ module _ {X : Type 0} where
   sublist_trans _ _ _ (skips _ js _ s) (keeps x ks xs t) = skips x js xs (sublist_trans js ks xs s t)
   sublist_trans _ _ _ (keeps _ js _ s) (keeps x ks xs t) = keeps x js xs (sublist_trans js ks xs s t)
 
+  pub sublist_map : {Y : Type 0} (f : X → Y) (ks xs : List X) → IsSublist ks xs → IsSublist (map f ks) (map f xs)
+  sublist_map f _ _ none = none
+  sublist_map f _ _ (skips x ks xs s) = skips (f x) (map f ks) (map f xs) (sublist_map f ks xs s)
+  sublist_map f _ _ (keeps x ks xs s) = keeps (f x) (map f ks) (map f xs) (sublist_map f ks xs s)
+
   pub sublist_all : (P : X → Type 0) (ks xs : List X) → IsSublist ks xs → AllByRecursion P xs → AllByRecursion P ks
   sublist_all P _ _ none a = tt
   sublist_all P _ _ (skips x ks xs s) a = sublist_all P ks xs s a.1

@@ -1,5 +1,5 @@
--- Numbered keys, and tables with a row for each number.
-use Rattle.std.specs.Prelude.{◌≡◌, ◌<◌, ◌-◌, Bool, true, false, List, [], ◌∷◌, ◌++◌, ℕ, Option, Some, None, Contains, filter, is_some, map, length}
+-- What entries say of keys and emails, the numbers of these, and tables with a row for each number.
+use Rattle.std.specs.Prelude.{◌≡◌, ◌<◌, ◌⊎◌, ◌&&◌, ◌-◌, Bool, false, if◌then◌else◌, true, List, [], ◌∷◌, ◌++◌, ℕ, Option, Some, None, Contains, is_some, map, length, unwrap_or}
 use Rattle.std.specs.Borrow.{Bor}
 use Rattle.std.specs.Option.{option_and_then, option_copied, option_map, option_or}
 use Rattle.std.specs.List.{slice_get, slice_index_or, AllByRecursion}
@@ -7,19 +7,19 @@ use Rattle.std.specs.List.Sorted.{IsStrictlySortedBy}
 use Rattle.std.specs.Ordering.{is_lt}
 use Rattle.mailmap_entries.specs.Entries.{Mapping, mapping_of}
 use Rattle.mailmap_entries.specs.Folding.{Text}
-use Rattle.mailmap_entries.specs.Semantics.{Key, Fields, first, key, key_cmp, is_accepted, last, new_fields}
-use Rattle.mailmap_redundancy.specs.Redundancy.{LocatedMapping, AreEffective, located_of, located_of_reference, entries, entries_of_key}
+use Rattle.mailmap_entries.specs.Listings.{same_entry}
+use Rattle.mailmap_entries.specs.Semantics.{Key, Fields, first, key, key_cmp, is_accepted, last}
+use Rattle.mailmap_redundancy.specs.Redundancy.{LocatedMapping, AreEffective, located_of, located_of_reference, entries_of_key}
 use Rattle.mailmap_redundancy.specs.Origins.{Origins, entries_of_email, last_with}
-use Rattle.mailmap_redundancy.specs.Summaries.{KeySummary, Summary, later_of, summary}
-use Rattle.mailmap_redundancy.specs.declared.numbers.NumberedEntry.{NumberedEntry}
+use Rattle.mailmap_redundancy.specs.declared.keys.NumberedEntry.{NumberedEntry}
 use Rattle.mailmap_redundancy.specs.declared.located.LocatedEntry.{LocatedEntry}
-use Rattle.mailmap_redundancy.specs.declared.passes.Later.{Later}
 use Rattle.mailmap_redundancy.specs.declared.origins.Fields.{Fields as FieldSlices}
 use Rattle.mailmap_redundancy.specs.declared.origins.Origins.{Origins as GiverEntries}
 use Rattle.mailmap_redundancy.specs.declared.table.KeySummary.{KeySummary as KeyEntries}
 use Rattle.mailmap_redundancy.specs.declared.table.EmailSummary.{EmailSummary as EmailEntries}
 use Rattle.mailmap_redundancy.specs.declared.table.Summary.{Summary as SummaryEntries}
 use Rattle.mailmap_redundancy.specs.declared.table.Table.{Table}
+use Rattle.mailmap_redundancy.specs.declared.table.Value.{Value}
 
 -- ---- what the program's values say
 
@@ -41,59 +41,89 @@ located_entry_of x = located_of x.located.now
 abbrev pub mappings : List NumberedEntry → List LocatedMapping
 mappings xs = map located_entry_of xs
 
--- ---- the entries that matter for a key
+-- ---- the entries that matter
 
--- the first with an old name, the last with a new name, the last with a new email, and the last of all
+-- of a key: the first, the last with a new name, the last with a new email, and the last
 pub record KeyOrigins : Type 0 where
-  pub old_name : Option LocatedMapping
+  pub first : Option LocatedMapping
   pub name : Option LocatedMapping
   pub email : Option LocatedMapping
   pub last : Option LocatedMapping
 
 abbrev pub key_origins : List LocatedMapping → KeyOrigins
-key_origins xs =
-    record {
-      old_name = first (filter (λ x. is_some x.entry.old_name) xs);
-      name = last_with (λ e. e.new_name) xs;
-      email = last_with (λ e. e.new_email) xs;
-      last = last xs;
-    }
+key_origins xs = record {
+  first = first xs;
+  name = last_with (λ e. e.new_name) xs;
+  email = last_with (λ e. e.new_email) xs;
+  last = last xs;
+}
 
--- for a range of entries followed by another
-abbrev pub joined_origins : KeyOrigins → KeyOrigins → KeyOrigins
-joined_origins a b =
-    record {
-      old_name = option_or a.old_name b.old_name;
-      name = option_or b.name a.name;
-      email = option_or b.email a.email;
-      last = option_or b.last a.last;
-    }
-
--- the specification's view of a row
 abbrev pub key_origins_of : KeyEntries → KeyOrigins
 key_origins_of s =
-    record { old_name = referred s.old_name; name = referred s.name; email = referred s.email; last = referred s.last }
+    record { first = referred s.first; name = referred s.name; email = referred s.email; last = referred s.last }
 
--- the summary of the key that these entries make
-abbrev pub summary_by : KeyOrigins → KeySummary
-summary_by g =
-    record {
-      old_name = option_and_then (λ x. x.entry.old_name) g.old_name;
-      name = option_and_then (λ x. x.entry.new_name) g.name;
-      email = option_and_then (λ x. x.entry.new_email) g.email;
-      last = option_map (λ x. new_fields x.entry) g.last;
-    }
+-- what a range of entries says of a key and of its email
+pub record Said : Type 0 where
+  pub of_key : KeyOrigins
+  pub spelling : Option LocatedMapping
 
--- the specification's view of an email's row
+abbrev pub said : List LocatedMapping → Key → Said
+said xs k = record { of_key = key_origins (entries_of_key xs k); spelling = first (entries_of_email xs k.0) }
+
 abbrev pub first_of : EmailEntries → Option LocatedMapping
 first_of s = referred s.first
 
-abbrev pub summary_of : SummaryEntries → Summary
-summary_of s =
-    record {
-      of_key = summary_by (key_origins_of s.of_key);
-      spelling = option_map (λ x. x.entry.old_email) (first_of s.of_email);
-    }
+abbrev pub said_of : SummaryEntries → Said
+said_of s = record { of_key = key_origins_of s.of_key; spelling = first_of s.of_email }
+
+-- what one entry says of its own key and email
+abbrev pub said_of_one : LocatedMapping → Said
+said_of_one x = record { of_key = key_origins (x ∷ []); spelling = Some x }
+
+-- of a range followed by another
+abbrev pub joined_said : Said → Said → Said
+joined_said a b = record {
+  of_key = record {
+    first = option_or a.of_key.first b.of_key.first;
+    name = option_or b.of_key.name a.of_key.name;
+    email = option_or b.of_key.email a.of_key.email;
+    last = option_or b.of_key.last a.of_key.last;
+  };
+  spelling = option_or a.spelling b.spelling;
+}
+
+-- the value of a key with or without an old name, of which this is said
+abbrev pub value_said : Bool → Said → Mapping
+value_said is_named s = if is_named then record {
+  new_name = option_and_then (λ x. x.entry.new_name) s.of_key.last;
+  new_email = option_and_then (λ x. x.entry.new_email) s.of_key.last;
+  old_name = option_and_then (λ x. x.entry.old_name) s.of_key.first;
+  old_email = unwrap_or (option_map (λ x. x.entry.old_email) s.spelling) [];
+} else record {
+  new_name = option_and_then (λ x. x.entry.new_name) s.of_key.name;
+  new_email = option_and_then (λ x. x.entry.new_email) s.of_key.email;
+  old_name = None;
+  old_email = unwrap_or (option_map (λ x. x.entry.old_email) s.spelling) [];
+}
+
+abbrev pub value_of : Value → Mapping
+value_of v = record {
+  new_name = option_copied v.new_name;
+  new_email = option_copied v.new_email;
+  old_name = option_copied v.old_name;
+  old_email = v.old_email.now;
+}
+
+-- whether the key of x is still there without x, and has the same value
+abbrev pub is_redundant : Said → LocatedMapping → Said → Bool
+is_redundant before x after = is_some (joined_said before after).of_key.last
+    && same_entry (value_said (is_some x.entry.old_name) (joined_said (joined_said before (said_of_one x)) after))
+    (value_said (is_some x.entry.old_name) (joined_said before after))
+
+-- what the entries after each entry say of its key and its email; the last entry's comes first
+abbrev pub said_after_each : List LocatedMapping → List Said
+said_after_each [] = []
+said_after_each (x ∷ xs) = said_after_each xs ++ said xs (key x.entry) ∷ []
 
 -- ---- numbers
 
@@ -115,9 +145,6 @@ pub record IsNumbered (keys : List Key) (x : NumberedEntry) : Type 0 where
 abbrev pub last_key : List Key → Option Key
 last_key keys = slice_get keys (length keys - 1)
 
-abbrev pub last_email : List Key → Option Text
-last_email keys = option_map (λ k. k.0) (last_key keys)
-
 abbrev pub IsReached : List Key → Key → Type 0
 IsReached keys k = (l : Key) → last_key keys ≡ Some l → is_lt (key_cmp k l) ≡ false
 
@@ -126,12 +153,11 @@ pub record AreAscending (keys : List Key) (email : ℕ) : Type 0 where
   pub ascending : IsStrictlySortedBy key_cmp keys
   pub of_email : (l : Key) → last_key keys ≡ Some l → IsNumber keys (email_key l.0) email
 
--- appends a key if it is above the last one
-pub record IsPushed (ks : List Key) (k : Key) (is_above : Bool) (ks' : List Key) : Type 0 where
-  pub above : is_above ≡ true → ks' ≡ ks ++ k ∷ []
-  pub not_above : is_above ≡ false → ks' ≡ ks
-  pub last : (l : Key) → last_key ks ≡ Some l → is_lt (key_cmp l k) ≡ is_above
-  pub none : is_above ≡ false → (l : Key) × (last_key ks ≡ Some l)
+-- a key is appended if it is above the last one, and then it has this number
+abbrev pub IsPushed : List Key → Key → Option ℕ → List Key → Type 0
+IsPushed ks k None ks' = (ks' ≡ ks) × ((l : Key) × (last_key ks ≡ Some l) × (is_lt (key_cmp l k) ≡ false))
+IsPushed ks k (Some number) ks' = (ks' ≡ ks ++ k ∷ []) × (number ≡ length ks)
+    × ((l : Key) → last_key ks ≡ Some l → is_lt (key_cmp l k) ≡ true)
 
 -- ---- tables
 
@@ -152,12 +178,9 @@ pub record IsTable (keys : List Key) (xs : List LocatedMapping) (t : Table) : Ty
   pub of_emails : IsTableOf keys email_key (λ email. first (entries_of_email xs email)) first_of t.emails.items
   pub known : AllByRecursion (IsKnown keys) xs
 
--- ---- passes
-
--- what each entry's redundancy depends on in the later entries; the last entry's comes first
-abbrev pub later_of_each : List LocatedMapping → List Later
-later_of_each [] = []
-later_of_each (x ∷ xs) = later_of_each xs ++ later_of x.entry (summary (entries xs) (key x.entry)) ∷ []
+-- the second list is the first with x at its end or at its start
+abbrev pub IsWith : List LocatedMapping → LocatedMapping → List LocatedMapping → Type 0
+IsWith xs x ys = (ys ≡ xs ++ x ∷ []) ⊎ (ys ≡ x ∷ xs)
 
 -- ---- effective entries
 

@@ -23,8 +23,7 @@ last_or_all (Some x) others = x ∷ []
 last_or_all None others = others
 
 abbrev pub those_that_count : List LocatedMapping → Text → Text → List LocatedMapping
-those_that_count kept name email =
-    last_or_all (last (entries_of_key kept (folded email, Some (folded name))))
+those_that_count kept name email = last_or_all (last (entries_of_key kept (folded email, Some (folded name))))
     (entries_of_key kept (folded email, None))
 
 -- the entries that set the new name and the new email; if none sets an email, the first entry of the email, whose
@@ -45,12 +44,11 @@ origins kept name email =
 
 -- the answer that origins make; a spelling equal to the email byte for byte changes nothing
 abbrev pub given : Origins → Text → Option Fields
-given g email =
-    unless_empty (record {
-      name = option_and_then (λ x. x.entry.new_name) g.name;
-      email = option_or (option_and_then (λ x. x.entry.new_email) g.email)
-          (option_and_then (λ x. respelled x.entry.old_email email) g.spelling);
-    })
+given g email = unless_empty (record {
+  name = option_and_then (λ x. x.entry.new_name) g.name;
+  email = option_or (option_and_then (λ x. x.entry.new_email) g.email)
+      (option_and_then (λ x. respelled x.entry.old_email email) g.spelling);
+})
 
 -- the answer needs only these entries
 abbrev pub needed : Origins → List LocatedMapping
@@ -65,8 +63,7 @@ git_answer_from h name email = unless_empty
 
 -- the answer that origins make in git
 abbrev pub git_given : Origins → Option Fields
-git_given g =
-    unless_empty (record {
-      name = option_and_then (λ x. x.entry.new_name) g.name;
-      email = option_and_then (λ x. x.entry.new_email) g.email;
-    })
+git_given g = unless_empty (record {
+  name = option_and_then (λ x. x.entry.new_name) g.name;
+  email = option_and_then (λ x. x.entry.new_email) g.email;
+})

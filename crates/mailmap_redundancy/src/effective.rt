@@ -1,23 +1,20 @@
 //! Entries without the redundant ones.
-ghost use Rattle.std.specs.Prelude.{◌≡◌, [], All, IfOk, Some, is_some, map, true};
+ghost use Rattle.std.specs.Prelude.{◌≡◌, [], All, IfOk, List, Some, is_some, map, true};
 ghost use Rattle.std.specs.List.Sorted.{IsStrictlySortedBy};
-ghost use Rattle.std.specs.Option.{option_map};
 ghost use Rattle.mailmap_entries.specs.Entries.{mapping_of};
 ghost use Rattle.mailmap_entries.specs.Folding.{folded};
 ghost use Rattle.mailmap_entries.specs.Semantics as answers;
-ghost use Rattle.mailmap_entries.specs.Semantics.{key, key_cmp, is_accepted, last_fields, spelling};
-ghost use Rattle.mailmap_redundancy.specs.Redundancy.{AreEffective, IsPass, entries, last_of_key, located_of};
+ghost use Rattle.mailmap_entries.specs.Semantics.{is_accepted, key, key_cmp, last_fields, spelling};
+ghost use Rattle.mailmap_redundancy.specs.Redundancy.{AreEffective, IsPass, LocatedMapping, entries, last_of_key, located_of};
 ghost use Rattle.mailmap_redundancy.specs.Redundancy.{located_of_reference};
-ghost use Rattle.mailmap_redundancy.specs.Origins.{git_answer_from, given, origins as spec_origins};
-ghost use Rattle.mailmap_redundancy.specs.Numbers.{IsEffectiveState, IsNumbered, EffectiveEntries, fields_of};
-ghost use Rattle.mailmap_redundancy.specs.Numbers.{origins_of, mappings, referred};
+ghost use Rattle.mailmap_redundancy.specs.Origins.{git_answer_from, git_given, given, last_or_all as spec_last_or_all, origins as spec_origins};
+ghost use Rattle.mailmap_redundancy.specs.Numbers.{EffectiveEntries, IsEffectiveState, IsNumbered, email_key, key_origins, key_origins_of, mappings, origins_of, referred, said, said_of};
 
-use crate::keys::Key;
+use crate::keys::{Key, NumberedEntry, find, number, unnumbered};
 use crate::located::LocatedEntry;
-use crate::numbers::{NumberedEntry, number, unnumbered};
-use crate::origins::{Fields, Origins, find_origins, first_of_email, last_of_key};
+use crate::origins::Origins;
 use crate::passes::{drop_redundant_once, drop_until_stable};
-use crate::table::Table;
+use crate::table::{EmailSummary, KeySummary, Summary, Table};
 use mailmap_entries::Entry;
 use std::alloc::{AllocError, Global};
 use std::marker::Model;
@@ -56,35 +53,20 @@ impl<'p, 'a> Effective<'p, 'a> {
     pub fn beside(&self, entry: &Entry<'_>) -> Option<&'p LocatedEntry<'a>>
         ensures { referred result ≡ last_of_key self.now.kept (key (mapping_of entry.now)) }
     {
-        last_of_key(&self.keys, &self.table, &Key::of(entry))
+        self.last_of_key(&Key::of(entry))
     }
 
     /// The entries behind the answer of all entries to a name and an email. Dropping all other effective entries would
-    /// not change this answer.
-    #[tactic(auto, using(crate::proofs::Giving::reduced_origins))]
+    /// not change this answer, nor that of git.
+    #[tactic(auto, using(crate::proofs::Giving::reduced_origins, crate::proofs::Giving::reduced_git))]
     pub fn origins(&self, name: &[u8], email: &[u8]) -> Origins<'p, 'a>
         ensures origins { origins_of result ≡ spec_origins self.now.kept name.now email.now }
         ensures answer { given (origins_of result) email.now
             ≡ answers.answer_of (entries self.now.history) name.now email.now }
+        ensures git_answer { git_given (origins_of result)
+            ≡ git_answer_from (entries self.now.history) name.now email.now }
     {
-        find_origins(&self.keys, &self.table, name, email)
-    }
-
-    /// What all entries together map a name and an email to, `None` if neither changes. The answer borrows only from
-    /// the texts of the entries.
-    pub fn answer_of(&self, name: &[u8], email: &[u8]) -> Option<Fields<'a>>
-        ensures { option_map fields_of result ≡ answers.answer_of (entries self.now.history) name.now email.now }
-    {
-        self.origins(name, email).fields(email)
-    }
-
-    /// What git maps a name and an email to by the same entries, `None` if neither changes. Unlike
-    /// [`Effective::answer_of`], it never respells an email.
-    #[tactic(auto, using(crate::proofs::Giving::reduced_git))]
-    pub fn git_answer_of(&self, name: &[u8], email: &[u8]) -> Option<Fields<'a>>
-        ensures { option_map fields_of result ≡ git_answer_from (entries self.now.history) name.now email.now }
-    {
-        find_origins(&self.keys, &self.table, name, email).git_fields()
+        self.find_origins(name, email)
     }
 
     /// Whether some entry has this name and this email as its old ones.
@@ -92,14 +74,74 @@ impl<'p, 'a> Effective<'p, 'a> {
         ensures { result
             ≡ is_some (last_fields (entries self.now.history) (folded email.now, Some (folded name.now))) }
     {
-        last_of_key(&self.keys, &self.table, &Key::new(email, Some(name))).is_some()
+        self.last_of_key(&Key::new(email, Some(name))).is_some()
     }
 
     /// Whether some entry has this email as its old one, with or without an old name.
     pub fn has_email(&self, email: &[u8]) -> bool
         ensures { result ≡ is_some (spelling (entries self.now.history) (folded email.now)) }
     {
-        first_of_email(&self.keys, &self.table, email).is_some()
+        self.summary(email).of_email.first.is_some()
+    }
+
+    #[tactic(auto, using(crate::proofs::Rows::none_of_unknown))]
+    fn last_of_key(&self, key: &Key<'_>) -> Option<&'p LocatedEntry<'a>>
+        ensures last { referred result ≡ last_of_key self.now.kept key.now }
+        ensures effective { AreEffective self.now.history self.now.kept }
+    {
+        let number = find(&self.keys, key)?;
+        self.table.keys[number].last
+    }
+
+    // What the effective entries say of an email and of its key without a name.
+    #[tactic(auto, using(crate::proofs::Redundant::none_of_key, crate::proofs::Rows::none_of_unknown_email))]
+    fn summary(&self, email: &[u8]) -> Summary<'p, 'a>
+        ensures said { said_of result ≡ said self.now.kept (email_key (folded email.now)) }
+        ensures effective { AreEffective self.now.history self.now.kept }
+    {
+        let Some(number) = find(&self.keys, &Key::new(email, None)) else {
+            return Summary {
+                of_key: KeySummary::none(),
+                of_email: EmailSummary { first: None },
+            };
+        };
+        Summary {
+            of_key: self.table.keys[number],
+            of_email: self.table.emails[number],
+        }
+    }
+
+    // Does what `origins` does. It is apart so that the clauses of that on all entries are proved from these two.
+    fn find_origins(&self, name: &[u8], email: &[u8]) -> Origins<'p, 'a>
+        ensures origins { origins_of result ≡ spec_origins self.now.kept name.now email.now }
+        ensures effective { AreEffective self.now.history self.now.kept }
+    {
+        let summary = self.summary(email);
+        let last = self.last_of_key(&Key::new(email, Some(name)));
+        let counting = last_or_all(last, summary.of_key);
+        Origins {
+            name: counting.name,
+            email: counting.email,
+            spelling: if counting.email.is_some() {
+                None
+            } else {
+                summary.of_email.first
+            },
+        }
+    }
+}
+
+// The entries that count for a name: the last entry with the name as its old name hides all others.
+fn last_or_all<'p, 'a>(
+    last: Option<&'p LocatedEntry<'a>>,
+    others: KeySummary<'p, 'a>,
+) -> KeySummary<'p, 'a>
+    ensures { (xs : List LocatedMapping) → key_origins_of others.entry ≡ key_origins xs
+        → key_origins_of result ≡ key_origins (spec_last_or_all (referred last.entry) xs) }
+{
+    match last {
+        Some(located) => KeySummary::of(located),
+        None => others,
     }
 }
 
@@ -107,7 +149,7 @@ impl<'p, 'a> Effective<'p, 'a> {
 /// list is the same without it. Passes are repeated until one drops nothing.
 ///
 /// Given the line `Jane <jd@x>` twice, or `Ann <jd@x>` and then `Jane <jd@x>`, the first is dropped. The first entry of an
-/// email is kept if the entries after it spell the email in another way, because its spelling counts.
+/// email is kept if the next entry of the email spells it in another way, because its spelling counts.
 pub fn without_redundant<'p, 'a>(
     alloc: Global,
     entries: &'p [LocatedEntry<'a>],
@@ -116,29 +158,18 @@ pub fn without_redundant<'p, 'a>(
     ensures history { IfOk result (λ s. s.history ≡ map located_of entries.now) }
     ensures effective { IfOk result (λ s. AreEffective (map located_of entries.now) s.kept) }
 {
-    let (keys, first) = first_pass(alloc, entries)?;
-    let kept = drop_until_stable(alloc, &keys, entries, first)?;
+    // The numbers of all entries are freed here, before another pass allocates.
+    let (keys, after_one_pass) = {
+        let mut rows = unnumbered(alloc, entries)?;
+        number_and_pass(alloc, entries, &mut rows)?
+    };
+    let kept = drop_until_stable(alloc, &keys, entries, after_one_pass)?;
     Ok(Effective {
         history: entries,
         kept: without_numbers(alloc, &kept)?,
         table: Table::of(alloc, &keys, &kept)?,
         keys,
     })
-}
-
-// The keys of the entries, and the entries that a first pass leaves. The numbers of all entries are freed here,
-// before another pass allocates.
-fn first_pass<'p, 'a>(
-    alloc: Global,
-    entries: &'p [LocatedEntry<'a>],
-) -> Result<(Vec<Key<'a>>, Vec<NumberedEntry<'p, 'a>>), AllocError>
-    requires { All (λ x. is_accepted (mapping_of x.entry) ≡ true) entries.now }
-    ensures ascending { IfOk result (λ made. IsStrictlySortedBy key_cmp made.0.items) }
-    ensures numbered { IfOk result (λ made. All (IsNumbered made.0.items) made.1.items) }
-    ensures passed { IfOk result (λ made. IsPass [] (map located_of entries.now) (mappings made.1.items)) }
-{
-    let mut rows = unnumbered(alloc, entries)?;
-    number_and_pass(alloc, entries, &mut rows)
 }
 
 // Numbers the entries in these rows, and makes the first pass over them.

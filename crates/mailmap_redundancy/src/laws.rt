@@ -9,7 +9,6 @@ ghost use Rattle.mailmap_entries.specs.Semantics.{IsNormal, Key, accepted, has_k
 ghost use Rattle.mailmap_redundancy.specs.Origins.{given, origins, needed};
 ghost use Rattle.mailmap_redundancy.specs.Redundancy.{IsPass, IsRedundant, AreEffective, IsSublist, LocatedMapping, entries, last_position, position_cmp};
 ghost use Rattle.mailmap_redundancy.specs.declared.located.Position.{Position};
-ghost use Rattle.mailmap_redundancy.specs.Summaries.{is_redundant, summary};
 
 use crate::located;
 
@@ -58,7 +57,7 @@ pub fn law_stable()
 {}
 
 /// Three passes are enough: the fourth drops nothing.
-#[tactic(auto, using(crate::proofs::Bounded::fourth_drops_none, crate::proofs::Bounded::reduced_by_three))]
+#[tactic(auto, using(crate::proofs::Kept::fourth_drops_none, crate::proofs::Kept::reduced_by_three))]
 pub fn law_passes()
     ensures fourth { (xs a b c : List LocatedMapping) → IsPass [] xs a → IsPass [] a b → IsPass [] b c
         → IsPass [] c c }
@@ -79,14 +78,6 @@ pub fn law_needed()
     ensures { (is_left : LocatedMapping → Bool) (xs kept : List LocatedMapping) (name email : Text) → AreEffective xs kept
         → All (λ x. is_left x ≡ true) (needed (origins kept name email))
         → answer_of (entries (filter is_left kept)) name email ≡ answer_of (entries xs) name email }
-{}
-
-/// Whether an accepted entry is redundant depends only on the summaries, for its key and its email, of the entries
-/// before it and of those after it.
-#[tactic(auto, using(crate::proofs::Redundant::redundant_decides))]
-pub fn law_redundant()
-    ensures { (a c : List Mapping) (e : Mapping) → is_accepted e ≡ true
-        → (is_redundant (summary a (key e)) e (summary c (key e)) ≡ true) ↔ IsRedundant a e c }
 {}
 
 /// Positions are equal exactly if both their buffers and their lines are. They are totally ordered by the buffers, then

@@ -6,7 +6,6 @@ mod effective;
 mod keys;
 pub mod laws;
 mod located;
-mod numbers;
 mod origins;
 mod passes;
 mod table;

@@ -1,32 +1,30 @@
-//! Summaries of a range of entries, for each key and each email, as references to the entries that matter.
-ghost use Rattle.std.specs.Prelude.{◌≡◌, ◌<◌, ◌++◌, [], ◌∷◌, IfOk, List, vec_len};
+//! What a range of entries says of each key and each email, as references to the entries that matter.
+ghost use Rattle.std.specs.Prelude.{◌≡◌, ◌<◌, ◌++◌, All, [], ◌∷◌, IfOk, List, vec_len};
 ghost use Rattle.std.specs.List.Sorted.{IsStrictlySortedBy};
+ghost use Rattle.mailmap_entries.specs.Listings.{same_entry};
 ghost use Rattle.mailmap_entries.specs.Semantics.{Key as SpecKey, key, key_cmp};
-ghost use Rattle.mailmap_redundancy.specs.Redundancy.{LocatedMapping, entries as spec_entries, located_of};
+ghost use Rattle.mailmap_redundancy.specs.Redundancy.{LocatedMapping, located_of};
+ghost use Rattle.mailmap_redundancy.specs.Numbers.{IsNumbered, IsTable, IsWith, entry_of, joined_said, key_origins, key_origins_of, located_entry_of, mappings, said, said_of, said_of_one, value_of, value_said};
 
-use crate::keys::Key;
-use crate::located::LocatedEntry;
-use crate::numbers::NumberedEntry;
+use crate::keys::{Key, NumberedEntry};
+use crate::located::{LocatedEntry, new_email, new_name, old_email, old_name};
 use std::alloc::{AllocError, Global};
 
-/// The entries that matter for a key: the first with an old name, the last with a new name, the last with a new email,
-/// and the last of all.
+/// The entries that matter for a key: the first, the last with a new name, the last with a new email, and the last.
 #[derive(Clone, Copy)]
 pub(crate) struct KeySummary<'p, 'a> {
-    pub(crate) old_name: Option<&'p LocatedEntry<'a>>,
+    pub(crate) first: Option<&'p LocatedEntry<'a>>,
     pub(crate) name: Option<&'p LocatedEntry<'a>>,
     pub(crate) email: Option<&'p LocatedEntry<'a>>,
     pub(crate) last: Option<&'p LocatedEntry<'a>>,
 }
 
 impl<'p, 'a> KeySummary<'p, 'a> {
-    ghost use Rattle.mailmap_redundancy.specs.Numbers.{joined_origins, key_origins, key_origins_of};
-
     pub(crate) fn none() -> KeySummary<'p, 'a>
         ensures { key_origins_of result ≡ key_origins [] }
     {
         KeySummary {
-            old_name: None,
+            first: None,
             name: None,
             email: None,
             last: None,
@@ -37,22 +35,10 @@ impl<'p, 'a> KeySummary<'p, 'a> {
         ensures { key_origins_of result ≡ key_origins (located_of located.now ∷ []) }
     {
         KeySummary {
-            old_name: located.entry.old_name().and(Some(located)),
+            first: Some(located),
             name: located.entry.new_name().and(Some(located)),
             email: located.entry.new_email().and(Some(located)),
             last: Some(located),
-        }
-    }
-
-    /// The summary of this range followed by another.
-    pub(crate) fn then(self, after: KeySummary<'p, 'a>) -> KeySummary<'p, 'a>
-        ensures { key_origins_of result ≡ joined_origins (key_origins_of self.entry) (key_origins_of after.entry) }
-    {
-        KeySummary {
-            old_name: self.old_name.or(after.old_name),
-            name: after.name.or(self.name),
-            email: after.email.or(self.email),
-            last: after.last.or(self.last),
         }
     }
 }
@@ -63,11 +49,82 @@ pub(crate) struct EmailSummary<'p, 'a> {
     pub(crate) first: Option<&'p LocatedEntry<'a>>,
 }
 
-/// Summaries for an entry's key and for its email.
+/// What a range of entries says of a key and of its email.
 #[derive(Clone, Copy)]
 pub(crate) struct Summary<'p, 'a> {
     pub(crate) of_key: KeySummary<'p, 'a>,
     pub(crate) of_email: EmailSummary<'p, 'a>,
+}
+
+impl<'p, 'a> Summary<'p, 'a> {
+    pub(crate) fn of(located: &'p LocatedEntry<'a>) -> Summary<'p, 'a>
+        ensures { said_of result ≡ said_of_one (located_of located.now) }
+    {
+        Summary {
+            of_key: KeySummary::of(located),
+            of_email: EmailSummary {
+                first: Some(located),
+            },
+        }
+    }
+
+    /// The summary of this range followed by another.
+    #[tactic(auto, using(crate::proofs::Giving::joined_options))]
+    pub(crate) fn then(self, after: Summary<'p, 'a>) -> Summary<'p, 'a>
+        ensures { said_of result ≡ joined_said (said_of self.entry) (said_of after.entry) }
+    {
+        Summary {
+            of_key: KeySummary {
+                first: self.of_key.first.or(after.of_key.first),
+                name: after.of_key.name.or(self.of_key.name),
+                email: after.of_key.email.or(self.of_key.email),
+                last: after.of_key.last.or(self.of_key.last),
+            },
+            of_email: EmailSummary {
+                first: self.of_email.first.or(after.of_email.first),
+            },
+        }
+    }
+
+    /// What the range makes of its key. If the key has an old name, its last entry gives both new fields.
+    pub(crate) fn value(&self, is_named: bool) -> Value<'a>
+        ensures { value_of result ≡ value_said is_named (said_of self.now) }
+    {
+        let key = &self.of_key;
+        let spelled = old_email(self.of_email.first).unwrap_or(&[]);
+        if is_named {
+            Value {
+                new_name: new_name(key.last),
+                new_email: new_email(key.last),
+                old_name: old_name(key.first),
+                old_email: spelled,
+            }
+        } else {
+            Value {
+                new_name: new_name(key.name),
+                new_email: new_email(key.email),
+                old_name: None,
+                old_email: spelled,
+            }
+        }
+    }
+}
+
+/// The new fields of a key, and how its old name and its email are spelled.
+#[derive(Clone, Copy, PartialEq)]
+pub(crate) struct Value<'a> {
+    new_name: Option<&'a [u8]>,
+    new_email: Option<&'a [u8]>,
+    old_name: Option<&'a [u8]>,
+    old_email: &'a [u8],
+}
+
+impl<'a> Value<'a> {
+    pub(crate) fn is_same(self, other: Value<'a>) -> bool
+        ensures { result ≡ same_entry (value_of self.entry) (value_of other.entry) }
+    {
+        self == other
+    }
 }
 
 /// A summary for each key and one for each email, both indexed by the numbers of keys: that of an email is the number of
@@ -79,10 +136,6 @@ pub(crate) struct Table<'p, 'a> {
 }
 
 impl<'p, 'a> Table<'p, 'a> {
-    ghost use Rattle.mailmap_redundancy.specs.Summaries.{summary};
-    ghost use Rattle.mailmap_redundancy.specs.Numbers.{IsTable, IsNumbered, entry_of, located_entry_of, mappings, summary_of};
-    ghost use Rattle.std.specs.Prelude.{All};
-
     /// The table of an empty range.
     pub(crate) fn none(alloc: Global, keys: &[Key<'_>]) -> Result<Table<'p, 'a>, AllocError>
         ensures { IfOk result (IsTable keys.now []) }
@@ -114,7 +167,7 @@ impl<'p, 'a> Table<'p, 'a> {
         requires key { x.now.key < vec_len self.now.keys }
         requires email { x.now.email < vec_len self.now.emails }
         ensures { (keys : List SpecKey) (xs : List LocatedMapping) → IsNumbered keys x.now → IsTable keys xs self.now
-            → summary_of result ≡ summary (spec_entries xs) (key (entry_of x.now)) }
+            → said_of result ≡ said xs (key (entry_of x.now)) }
     {
         Summary {
             of_key: self.keys[x.key],
@@ -130,10 +183,8 @@ impl<'p, 'a> Table<'p, 'a> {
             → IsNumbered keys x.now → IsTable keys xs self.old
             → IsTable keys (xs ++ located_entry_of x.now ∷ []) self.new }
     {
-        self.keys[x.key] = self.keys[x.key].then(KeySummary::of(x.located));
-        self.emails[x.email] = EmailSummary {
-            first: self.emails[x.email].first.or(Some(x.located)),
-        };
+        let summary = self.summary(x).then(Summary::of(x.located));
+        self.put(x, summary);
     }
 
     /// Extends the range at its start.
@@ -141,12 +192,21 @@ impl<'p, 'a> Table<'p, 'a> {
         requires key { x.now.key < vec_len self.old.keys }
         requires email { x.now.email < vec_len self.old.emails }
         ensures { (keys : List SpecKey) (xs : List LocatedMapping) → IsStrictlySortedBy key_cmp keys
-            → IsNumbered keys x.now → IsTable keys xs self.old
-            → IsTable keys (located_entry_of x.now ∷ xs) self.new }
+            → IsNumbered keys x.now → IsTable keys xs self.old → IsTable keys (located_entry_of x.now ∷ xs) self.new }
     {
-        self.keys[x.key] = KeySummary::of(x.located).then(self.keys[x.key]);
-        self.emails[x.email] = EmailSummary {
-            first: Some(x.located),
-        };
+        let summary = Summary::of(x.located).then(self.summary(x));
+        self.put(x, summary);
+    }
+
+    // Replaces the rows of an entry by what the range with this entry says.
+    fn put(&mut self, x: &NumberedEntry<'p, 'a>, summary: Summary<'p, 'a>)
+        requires key { x.now.key < vec_len self.old.keys }
+        requires email { x.now.email < vec_len self.old.emails }
+        ensures { (keys : List SpecKey) (xs ys : List LocatedMapping) → IsStrictlySortedBy key_cmp keys
+            → IsNumbered keys x.now → IsTable keys xs self.old → IsWith xs (located_entry_of x.now) ys
+            → said_of summary.entry ≡ said ys (key (entry_of x.now)) → IsTable keys ys self.new }
+    {
+        self.keys[x.key] = summary.of_key;
+        self.emails[x.email] = summary.of_email;
     }
 }

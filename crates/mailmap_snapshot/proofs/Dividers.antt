@@ -7,10 +7,6 @@ use Rattle.bstr.specs.Text.{line_len, lines_of}
 use Rattle.bstr.proofs.lemmas.LineLemmas.{line_len-bounds, lines-nil, lines-step}
 use Rattle.mailmap_snapshot.specs.Parts.{EndsLine, IsDividerLine, IsDivider, PartsAt, IsFirstParting, IsSplit}
 
--- the two dashes alone have no line feed
-no_feed : (front : List ℕ) → 45 ∷ 45 ∷ [] ≡ front ++ 10 ∷ [] → ⊥
-no_feed front is = let wrong = (same_from_push (45 ∷ []) front 45 10 is).1 in omega arith
-
 -- a line `--` has at least two bytes
 IsDividerLine-length : (line : List ℕ) → IsDividerLine line → 2 ≤ length line
 IsDividerLine-length line (inl is) = omega (arith, ap length is)
@@ -22,12 +18,10 @@ line_ends : (bs : List ℕ) → line_len bs < length bs → (front : List ℕ) �
 unfolding line_len
 line_ends [] more = absurd (omega arith)
 line_ends (b ∷ bs) more = ⊎_elim
-    (λ feed. ([], rw (cond-true _ 1 (suc (line_len bs)) feed) (ap (λ x. x ∷ []) (eqb-true _ _ feed))))
-    (λ other.
+    (λ feed. ([], rw (cond-true _ 1 (suc (line_len bs)) feed) (ap (λ x. x ∷ []) (eqb-true _ _ feed)))) (λ other.
     let len : line_len (b ∷ bs) ≡ suc (line_len bs) = cond-false _ _ _ other in
     let inner = line_ends bs (omega arith) in
-    (b ∷ inner.0, ap (λ n. take n (b ∷ bs)) len ∙ ap (λ l. b ∷ l) inner.1))
-    (cases_Bool (b == 10))
+    (b ∷ inner.0, ap (λ n. take n (b ∷ bs)) len ∙ ap (λ l. b ∷ l) inner.1)) (cases_Bool (b == 10))
 
 -- a line ends no later than at its first line feed
 line_len-feed : (xs ys : List ℕ) → line_len (xs ++ 10 ∷ ys) ≤ length xs + 1
@@ -47,8 +41,7 @@ EndsLine-drop : (n : ℕ) (xs : List ℕ) → EndsLine xs → EndsLine (drop n x
 EndsLine-drop n xs (inl none) = inl (drop_all n xs (omega (arith, ap length none)))
 EndsLine-drop n xs (inr (front, is)) = ⊎_elim
     (λ part. inr (drop n front, ap (drop n) is ∙ drop-append-le n front (10 ∷ []) (omega (arith, ap length is, length_push front 10))))
-    (λ whole. inl (drop_all n xs whole))
-    (cases_lt n (length xs))
+    (λ whole. inl (drop_all n xs whole)) (cases_lt n (length xs))
 
 -- if the first line isn't `--`, the input isn't split within it
 past_line : (before line after : List ℕ) → EndsLine before → IsDivider line after → (IsDividerLine (take (line_len (before ++ (line ++ after))) (before ++ (line ++ after))) → ⊥)
@@ -74,56 +67,44 @@ pub record HasPassed (input : List ℕ) (index : ℕ) (left : List (List ℕ)) :
   pub left_are : left ≡ lines_of (drop index input)
   pub none : (p r : List ℕ) → PartsAt input p r → index ≤ length p
 
--- the walk starts at the beginning, with all lines left
-pub begins : (input : List ℕ) → HasPassed input 0 (lines_of input)
-begins input = record { within = omega arith; starts = λ some. inl refl; left_are = refl; none = λ p r parts. omega arith }
-
 module _ (input : List ℕ) (index : ℕ) (lines : List (List ℕ)) (line : List ℕ) (left : List (List ℕ)) (next : lines ≡ line ∷ left) (passed : HasPassed input index lines) where
   abbrev rest : List ℕ
   rest = drop index input
 
-  -- the line at the index, and what is left after it
-  record Stepped : Type 0 where
-    is : line ≡ take (line_len rest) rest
-    len : length line ≡ line_len rest
-    some : 0 < length rest
-    short : line_len rest ≤ length rest
-    long : index + length rest ≡ length input
-    left_is : left ≡ lines_of (drop (line_len rest) rest)
+  some : 0 < length rest
+  some = some_line rest line left (sym next ∙ passed.left_are)
 
-  stepped : Stepped
-  stepped =
-      let some : 0 < length rest = some_line rest line left (sym next ∙ passed.left_are) in
-      let bounds = line_len-bounds rest some in
-      let both : line ∷ left ≡ take (line_len rest) rest ∷ lines_of (drop (line_len rest) rest) = sym next ∙ passed.left_are ∙ lines-step rest some in
-      let is : line ≡ take (line_len rest) rest = cc in
-      record {
-        is = is;
-        len = ap length is ∙ length-take-le (line_len rest) rest bounds.1;
-        some = some;
-        short = bounds.1;
-        long = omega (arith, passed.within, length-drop index input);
-        left_is = cc;
-      }
+  -- the line at the index, and what is left after it
+  step : line ∷ left ≡ take (line_len rest) rest ∷ lines_of (drop (line_len rest) rest)
+  step = sym next ∙ passed.left_are ∙ lines-step rest some
+
+  is : line ≡ take (line_len rest) rest
+  is = let both = step in cc
+
+  len : length line ≡ line_len rest
+  len = ap length is ∙ length-take-le (line_len rest) rest (line_len-bounds rest some).1
+
+  long : index + length rest ≡ length input
+  long = omega (arith, passed.within, length-drop index input)
 
   pub fits : index + length line ≤ length input
-  fits = omega (arith, stepped.len, stepped.short, stepped.long)
+  fits = omega (arith, len, (line_len-bounds rest some).1, long)
 
   -- the walk goes past a line that isn't `--`
   pub passes : (IsDividerLine line → ⊥) → HasPassed input (index + length line) left
   passes other = record {
     within = fits;
     starts = λ more.
-        let ends = line_ends rest (omega (arith, stepped.len, stepped.long)) in
-        inr (take index input ++ ends.0, cc (take-add index (length line) input, stepped.len, ends.1, append_assoc (take index input) ends.0 (10 ∷ [])));
-    left_are = cc (stepped.left_is, stepped.len, drop-drop (length line) index input);
+        let ends = line_ends rest (omega (arith, len, long)) in
+        inr (take index input ++ ends.0, cc (take-add index (length line) input, len, ends.1, append_assoc (take index input) ends.0 (10 ∷ [])));
+    left_are = cc (step, len, drop-drop (length line) index input);
     none = λ p r parts.
         let before = drop index p in
         let within : index ≤ length p = passed.none p r parts in
         let rest_is : rest ≡ before ++ (parts.line ++ r) =
         cc (append_assoc p parts.line r, drop-append-le index p (parts.line ++ r) within) in
-        let bound = past_line before parts.line r (EndsLine-drop index p parts.starts) parts.divides (λ divider. other (rw (stepped.is, rest_is) divider)) in
-        omega (arith, stepped.len, ap line_len rest_is, length-drop index p);
+        let bound = past_line before parts.line r (EndsLine-drop index p parts.starts) parts.divides (λ divider. other (rw (is, rest_is) divider)) in
+        omega (arith, len, ap line_len rest_is, length-drop index p);
   }
 
   -- at a line `--` the input is split
@@ -135,18 +116,17 @@ module _ (input : List ℕ) (index : ℕ) (lines : List (List ℕ)) (line : List
         take-append-drop index input,
         take-append-drop (length line) rest,
         drop-drop (length line) index input,
-        stepped.is,
-        stepped.len,
+        is,
+        len,
         append_assoc (take index input) line (drop (index + length line) input),
       );
-      starts = passed.starts (omega (arith, stepped.some, stepped.long));
+      starts = passed.starts (omega (arith, some, long));
       divides = (
         divider,
-        λ bare. ⊎_elim
-            (λ more.
-            let ends = line_ends rest (omega (arith, stepped.len, stepped.long)) in
-            absurd (no_feed ends.0 (sym bare ∙ stepped.is ∙ ends.1)))
-            (λ end. drop_all (index + length line) input end)
+        λ bare. ⊎_elim (λ more.
+            let ends = line_ends rest (omega (arith, len, long)) in
+            let wrong = (same_from_push (45 ∷ []) ends.0 45 10 (sym bare ∙ is ∙ ends.1)).1 in
+            absurd (omega arith)) (λ end. drop_all (index + length line) input end)
             (cases_lt (index + length line) (length input)),
       );
     };
@@ -166,21 +146,17 @@ ended input index lines over passed = inr (record {
 
 -- ---- there is only one way to split an input
 
--- two ways to see a line `--` at the same place agree on what follows it
-same_after : (line after line' after' : List ℕ) → IsDivider line after → IsDivider line' after' → line ++ after ≡ line' ++ after' → after ≡ after'
-same_after line r line' s here there same =
-    let lines : line ≡ line' = cc (first_divider line r here, first_divider line' s there) in
-    append_cancel_left line' r s (rw lines at same)
-
 -- two first splits of an input are the same
 first_same : (input p r q s : List ℕ) → IsFirstParting input p r → IsFirstParting input q s → (p ≡ q) × (r ≡ s)
 first_same input p r q s here there =
+    let l = here.parts.line in
+    let m = there.parts.line in
     let long : length p ≡ length q = omega (arith, here.first q s there.parts, there.first p r here.parts) in
-    let front = λ (q s : List ℕ) (d : PartsAt input q s). take-append_seam q (d.line ++ s) in
-    let fronts : p ≡ q = cc (front p r here.parts, front q s there.parts, append_assoc p here.parts.line r, append_assoc q there.parts.line s) in
-    let wholes : p ++ (here.parts.line ++ r) ≡ p ++ (there.parts.line ++ s) =
-    cc (append_assoc p here.parts.line r, append_assoc q there.parts.line s) in
-    (fronts, same_after here.parts.line r there.parts.line s here.parts.divides there.parts.divides (append_cancel_left p _ _ wholes))
+    let whole : p ++ (l ++ r) ≡ q ++ (m ++ s) = cc (here.parts.whole, there.parts.whole, append_assoc p l r, append_assoc q m s) in
+    let front : p ≡ q = cc (whole, take-append_seam p (l ++ r), take-append_seam q (m ++ s)) in
+    let rest : l ++ r ≡ m ++ s = append_cancel_left q (l ++ r) (m ++ s) (rw front at whole) in
+    let line : l ≡ m = cc (rest, first_divider l r here.parts.divides, first_divider m s there.parts.divides) in
+    (front, append_cancel_left m r s (rw line at rest))
 
 pub parted_same : (input p r q s : List ℕ) → IsSplit input p r → IsSplit input q s → (p ≡ q) × (r ≡ s)
 parted_same input p r q s (inl here) (inl there) = first_same input p r q s here there

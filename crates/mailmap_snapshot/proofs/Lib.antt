@@ -1,12 +1,10 @@
 pub mod Resolved
-pub mod Compared
-pub mod Remaining
 pub mod Sources
 pub mod WhiteEnds
 pub mod WritableLines
-pub mod WrittenExamples
 pub mod WrittenLine
-pub mod Contacts
 pub mod Dividers
 pub mod ContactLines
 pub mod Streams
+pub mod Times
+pub mod Ordered

@@ -1,9 +1,9 @@
 -- The answer and the counts that follow from the indices that a lookup finds.
-use Rattle.std.proofs.Common.{◌≡◌, ℕ, ◌<◌, List, [], map, length, get_or, Option, Some, None, IsSome, option_map, unwrap_or, refl, sym, ap, ◌∙◌, arith, ◌≢◌, zero, suc, ◌+◌, Bool, true, false, ◌&&◌, ◌||◌, if◌then◌else◌, cond, is_some, ◌∷◌, ◌++◌, Less, is_eq, count_by, ap₂}
+use Rattle.std.proofs.Common.{◌≡◌, ℕ, ◌<◌, ◌≤◌, List, [], map, length, get_or, Option, Some, None, IsSome, option_map, unwrap_or, refl, sym, ap, ◌∙◌, arith, ◌≢◌, zero, suc, ◌+◌, Bool, true, false, ◌&&◌, ◌||◌, if◌then◌else◌, cond, is_some, ◌∷◌, ◌++◌, Less, is_eq, count_by, ap₂}
 use Rattle.std.specs.List.{AllByRecursion, slice_get, list_any}
 use Rattle.std.specs.List.Sorted.{IsStrictlySortedBy}
 use Rattle.std.proofs.lemmas.List.{get_or-map, length-map}
-use Rattle.std.proofs.lemmas.Option.{slice_get-map, slice_get-get_or, get_or_from_slice_get, slice_get_within}
+use Rattle.std.proofs.lemmas.Option.{get_or_from_slice_get, slice_get_within}
 use Rattle.mailmap_entries.specs.Folding.{Text, folded, text_cmp}
 use Rattle.mailmap_tables.specs.Groups.{EmailGroup, IsGroup, AreGroups, email_key, name_key, listing, name_row, own_rows, rows}
 use Rattle.mailmap_entries.specs.Semantics.{fields_with_spelling, answer_of, mapping_with}
@@ -13,7 +13,7 @@ use Rattle.mailmap_tables.specs.RowTexts.{email_span, old_span}
 use Rattle.mailmap_tables.specs.declared.texts.Span.{Span}
 use Rattle.mailmap_snapshot.specs.Signatures.{name_count, is_for_email, email_count}
 use Rattle.mailmap_tables.specs.declared.texts.RowTexts.{RowTexts}
-use Rattle.mailmap_tables.proofs.Pooled.{all_at}
+use Rattle.mailmap_tables.proofs.KeySearch.{found_key}
 use Rattle.mailmap_tables.proofs.Grouped.{none_has, scan_missing, scan_name_at, scan_own_at, all_rows, rows_spelled, listing_all}
 use Rattle.std.specs.Cmp.{tied_itself}
 use Rattle.std.specs.Cmp.Lexicographic.{nat_list_cmp_total}
@@ -23,53 +23,45 @@ use Rattle.std.proofs.lemmas.List.Elements.{All-from_recursion}
 use Rattle.std.proofs.lemmas.List.Folds.{list_any_none}
 use Rattle.std.proofs.lemmas.List.Sums.{length-filter, sum_by-append}
 use Rattle.std.proofs.lemmas.Map.Views.{tells_apart}
+use Rattle.std.proofs.lemmas.Map.Text.{is_eq-slice_cmp}
 use Rattle.std.proofs.lemmas.Map.Lookups.{exact_bytes}
 use Rattle.mailmap_entries.specs.Entries.{Mapping}
+use Rattle.mailmap_entries.proofs.Joined.{filter_none}
 use Rattle.mailmap_entries.proofs.Parts.{all_weaker, all_map, filter_all}
+use Rattle.mailmap_entries.proofs.Building.{other_text}
 
 -- ---- predicates that hold for all elements, or for none
-
-none_counted : {X : Type 0} (p : X → Bool) (xs : List X) → AllByRecursion (λ x. p x ≡ false) xs → count_by p xs ≡ 0
-none_counted p [] a = refl
-none_counted p (x ∷ xs) a = sum_by-append (λ y. cond (p y) 1 0) (x ∷ []) xs ∙ ap₂ (λ b n. 0 + cond b 1 0 + n) a.0 (none_counted p xs a.1)
-
-all_counted : {X : Type 0} (p : X → Bool) (xs : List X) → AllByRecursion (λ x. p x ≡ true) xs → count_by p xs ≡ length xs
-all_counted p xs a = sym (length-filter p xs) ∙ ap length (filter_all p xs a)
 
 pub all_slice : {X : Type 0} (P : X → Type 0) (xs : List X) (i : ℕ) (x : X) → AllByRecursion P xs → slice_get xs i ≡ Some x → P x
 all_slice P xs i x a read = rw (get_or_from_slice_get xs i x x read) at (All-from_recursion P xs a i x (slice_get_within xs i x read))
 
--- different texts don't compare as equal
-pub apart : (a b : Text) → (b ≡ a → ⊥) → eq_by_cmp text_cmp a b ≡ false
-apart a b other = false_from_ne_true _ (λ same. other (sym (tells_apart exact_bytes a b same)))
+-- `==` of texts is the test in the contracts
+pub ruleset same_text = (is_eq-slice_cmp, refl)
 
 -- ---- emails
 
 -- the entries of one more email add one to the count
-rows_add : (k : Text) (r : Mapping) (rs rest : List Mapping) → AllByRecursion (λ x. folded x.old_email ≡ k) (r ∷ rs) → AllByRecursion (λ x. eq_by_cmp text_cmp k (folded x.old_email) ≡ false) rest → email_count (r ∷ rs ++ rest) ≡ email_count rest + 1
-rows_add k r [] rest same other =
-    let none : list_any (is_for_email r.old_email) rest ≡ false = ap (λ t. list_any (λ d. eq_by_cmp text_cmp t (folded d.old_email)) rest) same.0 ∙ list_any_none _ rest (All-from_recursion _ rest other) in
-    ap (λ b. if b then email_count rest else email_count rest + 1) none
-rows_add k r (s ∷ rs) rest same other =
-    let tied : is_for_email r.old_email s ≡ true = ap₂ (eq_by_cmp text_cmp) same.0 same.1.0 ∙ ap is_eq (tied_itself nat_list_cmp_total k) in
-    ap (λ b. if b || list_any (is_for_email r.old_email) (rs ++ rest) then email_count (s ∷ rs ++ rest) else email_count (s ∷ rs ++ rest) + 1) tied ∙ rows_add k s rs rest same.1 other
-
 some_add : (k : Text) (rs rest : List Mapping) → rs ≢ [] → AllByRecursion (λ x. folded x.old_email ≡ k) rs → AllByRecursion (λ x. eq_by_cmp text_cmp k (folded x.old_email) ≡ false) rest → email_count (rs ++ rest) ≡ email_count rest + 1
 some_add k [] rest says same other = absurd (says refl)
-some_add k (r ∷ rs) rest says same other = rows_add k r rs rest same other
+some_add k (r ∷ []) rest says same other =
+    let none : list_any (is_for_email r.old_email) rest ≡ false = ap (λ t. list_any (λ d. eq_by_cmp text_cmp t (folded d.old_email)) rest) same.0 ∙ list_any_none _ rest (All-from_recursion _ rest other) in
+    ap (λ b. if b then email_count rest else email_count rest + 1) none
+some_add k (r ∷ s ∷ rs) rest says same other =
+    let tied : is_for_email r.old_email s ≡ true = ap₂ (eq_by_cmp text_cmp) same.0 same.1.0 ∙ ap is_eq (tied_itself nat_list_cmp_total k) in
+    ap (λ b. if b || list_any (is_for_email r.old_email) (rs ++ rest) then email_count (s ∷ rs ++ rest) else email_count (s ∷ rs ++ rest) + 1) tied
+    ∙ some_add k (s ∷ rs) rest (λ e. cc) same.1 other
 
 -- the entries for emails other than k
 other_rows : (P : EmailGroup → Type 0) (k : Text) → ((g : EmailGroup) → P g → eq_by_cmp text_cmp k (email_key g) ≡ false) → (gs : List EmailGroup) → AllByRecursion P gs → AllByRecursion (λ x. eq_by_cmp text_cmp k (folded x.old_email) ≡ false) (listing gs)
 other_rows P k f gs a = listing_all _ gs (all_weaker gs (λ g p. all_weaker (rows g) (λ r spelled. ap (λ t. eq_by_cmp text_cmp k (folded t)) spelled ∙ f g p) (rows_spelled g)) a)
 
-pub email_count-listing : (gs : List EmailGroup) → IsStrictlySortedBy text_cmp (map email_key gs) → AllByRecursion IsGroup gs → email_count (listing gs) ≡ length gs
+pub listed_emails : (gs : List EmailGroup) → IsStrictlySortedBy text_cmp (map email_key gs) → AllByRecursion IsGroup gs → email_count (listing gs) ≡ length gs
 unfolding IsStrictlySortedBy
-email_count-listing [] up each = refl
-email_count-listing (g ∷ gs) up each =
+listed_emails [] up each = refl
+listed_emails (g ∷ gs) up each =
     some_add (email_key g) (rows g) (listing gs) each.0.says (all_weaker (rows g) (λ r spelled. ap folded spelled) (rows_spelled g))
     (other_rows (λ x. text_cmp (email_key g) (email_key x) ≡ Less) (email_key g) (λ x less. ap is_eq less) gs (all_map email_key (λ y. text_cmp (email_key g) y ≡ Less) gs up.0))
-    ∙ ap (λ n. n + 1) (email_count-listing gs up.1 each.1)
-    ∙ omega arith
+    ∙ ap (λ n. n + 1) (listed_emails gs up.1 each.1) ∙ omega arith
 
 -- ---- names
 
@@ -80,7 +72,8 @@ rows_counted : (k : Text) (g : EmailGroup) → email_key g ≡ k → count_by (i
 rows_counted k g same =
     let tied : eq_by_cmp text_cmp k (email_key g) ≡ true = ap (eq_by_cmp text_cmp k) same ∙ ap is_eq (tied_itself nat_list_cmp_total k) in
     sum_by-append (λ e. cond (is_name_of k e) 1 0) (own_rows g) (map (name_row g.old_email) g.names)
-    ∙ ap₂ (λ m n. m + n) (own (is_some g.own.name || is_some g.own.email)) (all_counted (is_name_of k) (map (name_row g.old_email) g.names) (all_rows (λ e. is_name_of k e ≡ true) g.old_email g.names (λ n. tied)) ∙ length-map g.names (name_row g.old_email))
+    ∙ ap₂ (λ m n. m + n) (own (is_some g.own.name || is_some g.own.email)) (sym (length-filter (is_name_of k) (map (name_row g.old_email) g.names))
+    ∙ ap length (filter_all (is_name_of k) (map (name_row g.old_email) g.names) (all_rows (λ e. is_name_of k e ≡ true) g.old_email g.names (λ n. tied))) ∙ length-map g.names (name_row g.old_email))
     ∙ omega arith
   where
     own : (b : Bool) → count_by (is_name_of k) (if b then mapping_with g.own None g.old_email ∷ [] else []) ≡ 0
@@ -88,13 +81,14 @@ rows_counted k g same =
 
 -- entries for other emails than k are not counted
 none_of_others : (k : Text) (rs : List Mapping) → AllByRecursion (λ x. eq_by_cmp text_cmp k (folded x.old_email) ≡ false) rs → count_by (is_name_of k) rs ≡ 0
-none_of_others k rs other = none_counted (is_name_of k) rs (all_weaker rs (λ x apart. ap (λ b. is_some x.old_name && b) apart ∙ never (is_some x.old_name)) other)
+none_of_others k rs other =
+    sym (length-filter (is_name_of k) rs) ∙ ap length (filter_none (is_name_of k) rs (all_weaker rs (λ x apart. ap (λ b. is_some x.old_name && b) apart ∙ never (is_some x.old_name)) other))
   where
     never : (b : Bool) → (b && false) ≡ false
     never b = grind arith
 
 pub name_count-none : (gs : List EmailGroup) (email : Text) → AllByRecursion (λ g. email_key g ≡ folded email → ⊥) gs → name_count (listing gs) email ≡ 0
-name_count-none gs email other = none_of_others (folded email) (listing gs) (other_rows (λ g. email_key g ≡ folded email → ⊥) (folded email) (λ g. apart (folded email) (email_key g)) gs other)
+name_count-none gs email other = none_of_others (folded email) (listing gs) (other_rows (λ g. email_key g ≡ folded email → ⊥) (folded email) (λ g. other_text (folded email) (email_key g)) gs other)
 
 pub name_count-at : (email : Text) (gs : List EmailGroup) (i : ℕ) (g : EmailGroup) → IsStrictlySortedBy text_cmp (map email_key gs) → slice_get gs i ≡ Some g → email_key g ≡ folded email → name_count (listing gs) email ≡ length g.names
 unfolding IsStrictlySortedBy
@@ -105,8 +99,7 @@ name_count-at email (x ∷ gs) zero g up read same =
     let here : email_key x ≡ k = ap email_key is ∙ same in
     let after = other_rows (λ y. text_cmp (email_key x) (email_key y) ≡ Less) k (λ y less. ap (λ t. eq_by_cmp text_cmp t (email_key y)) (sym here) ∙ ap is_eq less) gs (all_map email_key (λ y. text_cmp (email_key x) y ≡ Less) gs up.0) in
     sum_by-append (λ e. cond (is_name_of k e) 1 0) (rows x) (listing gs)
-    ∙ ap₂ (λ m n. m + n) (rows_counted k x here) (none_of_others k (listing gs) after)
-    ∙ ap (λ y. length y.names + 0) is
+    ∙ ap₂ (λ m n. m + n) (rows_counted k x here) (none_of_others k (listing gs) after) ∙ ap (λ y. length y.names + 0) is
     ∙ omega arith
 name_count-at email (x ∷ gs) (suc i) g up read same =
     let k = folded email in
@@ -119,20 +112,23 @@ name_count-at email (x ∷ gs) (suc i) g up read same =
 
 -- ---- the email is missing
 
-module _ (gs : List EmailGroup) (email : Text) (i : ℕ) (missing : IsMissing email_key (folded email) 0 gs i) where
+module _ (gs : List EmailGroup) (email : Text) (i : ℕ) (le : i ≤ length gs)
+    (missing : IsMissing email_key (folded email) gs i) where
   pub scan_at_none : (name : Text) → answer_of (listing gs) name email ≡ None
-  scan_at_none name = scan_missing gs name email (none_has email_key (folded email) gs i missing.below missing.above)
+  scan_at_none name = scan_missing gs name email (none_has email_key (folded email) gs i le missing)
 
   pub no_names : name_count (listing gs) email ≡ 0
-  no_names = name_count-none gs email (none_has email_key (folded email) gs i missing.below missing.above)
+  no_names = name_count-none gs email (none_has email_key (folded email) gs i le missing)
 
 -- ---- the email is there, with the rows at its index
 
-module _ (gs : List EmailGroup) (are : AreGroups gs) (email : Text) (i : ℕ) (found : IsFound email_key (folded email) 0 gs i)
+module _ (gs : List EmailGroup) (are : AreGroups gs) (email : Text) (i : ℕ) (found : IsFound email_key (folded email) gs i)
     (pool : Text) (r : RowTexts) (ns : List RowTexts) (read : slice_get gs i ≡ Some (group_of pool r ns)) where
   same : email_key (group_of pool r ns) ≡ folded email
-  same =
-      let e : Some (email_key (group_of pool r ns)) ≡ Some (folded email) = sym (slice_get-map email_key gs i ∙ ap (option_map email_key) read) ∙ found.key in cc
+  same = found_key email_key (folded email) gs i found (group_of pool r ns) (sym (get_or_from_slice_get gs i (group_of pool r ns) (group_of pool r ns) read))
+
+  within : i < length gs
+  within = slice_get_within gs i (group_of pool r ns) read
 
   -- the new email for a name
   given : (o : Option Span) → IsSome o → Some (unwrap_or (option_map (spelled pool) o) []) ≡ option_map (spelled pool) o
@@ -145,19 +141,18 @@ module _ (gs : List EmailGroup) (are : AreGroups gs) (email : Text) (i : ℕ) (f
   names_counted = name_count-at email gs i (group_of pool r ns) are.ascending read same ∙ length-map ns (name_group pool)
 
   module _ (name : Text) (j : ℕ) where
-    pub scan_at_name : (d : RowTexts) → AllByRecursion (NameInPool (length pool)) ns → IsFound name_key (folded name) 0 (map (name_group pool) ns) j
+    pub scan_at_name : (d : RowTexts) → AllByRecursion (NameInPool (length pool)) ns → j < length ns → IsFound name_key (folded name) (map (name_group pool) ns) j
         → answer_of (listing gs) name email ≡ fields_with_spelling email (fields_of pool (get_or ns j d)) (Some (spelled pool (old_span r)))
-    scan_at_name d lie here =
+    scan_at_name d lie lt here =
         let n = name_group pool (get_or ns j d) in
-        let lt : j < length ns = omega (arith, here.within, length-map ns (name_group pool)) in
+        let inside : j < length (map (name_group pool) ns) = omega (arith, lt, length-map ns (name_group pool)) in
         let at : get_or (map (name_group pool) ns) j n ≡ n = get_or-map (name_group pool) ns j d n lt in
-        let key : Some (name_key n) ≡ Some (folded name) =
-        cc (at, slice_get-map name_key (map (name_group pool) ns) j, slice_get-get_or (map (name_group pool) ns) j n here.within, here.key) in
-        scan_name_at gs are name email i (group_of pool r ns) found.within (sym (get_or_from_slice_get gs i (group_of pool r ns) (group_of pool r ns) read)) same j n here.within (sym at) (cc)
-        ∙ ap (λ o. fields_with_spelling email (record { name = n.new_name; email = o }) (Some (spelled pool (old_span r)))) (given (email_span (get_or ns j d)) (all_at (NameInPool (length pool)) ns j d lie lt).new_email)
+        let key : name_key n ≡ folded name = found_key name_key (folded name) (map (name_group pool) ns) j here n (sym at) in
+        scan_name_at gs are name email i (group_of pool r ns) within (sym (get_or_from_slice_get gs i (group_of pool r ns) (group_of pool r ns) read)) same j n inside (sym at) key
+        ∙ ap (λ o. fields_with_spelling email (record { name = n.new_name; email = o }) (Some (spelled pool (old_span r)))) (given (email_span (get_or ns j d)) (All-from_recursion (NameInPool (length pool)) ns lie j d lt).new_email)
 
-    pub scan_at_email : IsMissing name_key (folded name) 0 (map (name_group pool) ns) j
+    pub scan_at_email : j ≤ length ns → IsMissing name_key (folded name) (map (name_group pool) ns) j
         → answer_of (listing gs) name email ≡ fields_with_spelling email (fields_of pool r) (Some (spelled pool (old_span r)))
-    scan_at_email none =
-        scan_own_at gs are name email i (group_of pool r ns) found.within (sym (get_or_from_slice_get gs i (group_of pool r ns) (group_of pool r ns) read)) same
-        (none_has name_key (folded name) (map (name_group pool) ns) j none.below none.above)
+    scan_at_email le none =
+        scan_own_at gs are name email i (group_of pool r ns) within (sym (get_or_from_slice_get gs i (group_of pool r ns) (group_of pool r ns) read)) same
+        (none_has name_key (folded name) (map (name_group pool) ns) j (omega (arith, le, length-map ns (name_group pool))) none)

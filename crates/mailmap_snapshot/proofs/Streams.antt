@@ -1,47 +1,40 @@
 -- Contacts that arrive in parts get the same answers as all at once, line by line.
-use Rattle.std.proofs.Common.{set, ◌≡◌, ◌+◌, ◌-◌, ◌<◌, ◌≤◌, ℕ, Some, None, List, [], ◌∷◌, ◌++◌, length, take, drop, append-nil, append_assoc, refl, sym, ap, subst, ◌∙◌, arith, inl, inr, ◌≢◌, map}
+use Rattle.std.proofs.Common.{set, ◌≡◌, ◌+◌, ◌-◌, ◌<◌, ℕ, Some, None, List, [], ◌∷◌, ◌++◌, length, take, drop, append-nil, append_assoc, refl, sym, ap, subst, ◌∙◌, arith, inl, inr, ◌≢◌, unwrap_or}
 use Rattle.std.specs.List.{flat_map}
 use Rattle.std.proofs.lemmas.Bool.{eq-eqb, eqb-true}
 use Rattle.std.proofs.lemmas.Grind.{flat_map-append}
 use Rattle.std.proofs.lemmas.List.{length-drop, length-take-le, take_rest, nil_from_length}
 use Rattle.std.proofs.Math.Seq.{take-add, take-length}
 use Rattle.bstr.specs.Find.{IsFirstByte, is_byte}
-use Rattle.bstr.specs.Text.{without_terminator}
 use Rattle.mailmap_entries.specs.Entries.{Mapping}
 use Rattle.mailmap_entries.specs.Folding.{Text}
 use Rattle.mailmap_entries.proofs.Parts.{all_append}
-use Rattle.mailmap_grammar.specs.Lines.{HoldsNo}
-use Rattle.mailmap_grammar.proofs.SplitOnce.{none_held, held_before}
-use Rattle.mailmap_snapshot.specs.Contacts.{answer, answers, contact_lines}
+use Rattle.mailmap_entries.specs.Semantics.{Fields, IsNormal, no_fields}
+use Rattle.mailmap_entries.proofs.Alike.{same_scan}
+use Rattle.mailmap_entries.proofs.Normal.{alike_normal}
+use Rattle.mailmap_grammar.specs.Lines.{HoldsNo, contact_in}
+use Rattle.mailmap_grammar.proofs.SplitOnce.{none_held}
+use Rattle.mailmap_snapshot.specs.Contacts.{answer, answers, contact_answer, contact_lines}
 use Rattle.mailmap_snapshot.specs.Parts.{EndsLine}
 use Rattle.answer_cache.specs.CachedLines.{CachedLine, Inserts}
 use Rattle.std.proofs.lemmas.List.Elements.{All-push, All-same, All-set}
-use Rattle.mailmap_snapshot.specs.Streams.{AreCachedAnswers, AnswersFront, AnswersParts, Stream, IsOneLine}
+use Rattle.mailmap_snapshot.specs.Streams.{AreCachedAnswers, AnswersFront, AnswersParts, HasRead}
 use Rattle.mailmap_snapshot.proofs.ContactLines.{contact_lines-append, contact_lines-nil, contact_lines-open}
-use Rattle.mailmap_grammar.proofs.Pieces.{lines_of-ended}
 use Rattle.mailmap_grammar.proofs.Plain.{last_at}
 
--- the answers to one line
-one_answer : (h : List Mapping) (text line : Text) → contact_lines text ≡ line ∷ [] → answers h text ≡ answer h line ++ 10 ∷ []
-one_answer h text line is = ap (flat_map (λ line. answer h line ++ 10 ∷ [])) is ∙ append-nil (answer h line ++ 10 ∷ [])
-
-pub ended_answers : (h : List Mapping) (text : Text) → IsOneLine text → answers h text ≡ answer h (without_terminator text) ++ 10 ∷ []
-ended_answers h text one = one_answer h text (without_terminator text) (rw one.2 (ap (map without_terminator) (lines_of-ended one.0 one.1)))
+-- a normal list gives the same answers as the mappings that it is made from
+pub same_answers : (h n : List Mapping) → IsNormal h n → (contacts : Text) → answers n contacts ≡ answers h contacts
+same_answers h n d contacts =
+    ap (λ (fields : Text → Text → Fields). flat_map (λ line. contact_answer fields line (contact_in line) ++ 10 ∷ []) (contact_lines contacts))
+    (λ i name email. unwrap_or (sym (same_scan h n name email (alike_normal h n d)) i) no_fields)
 
 -- a last line without a line feed
 pub open_answers : (h : List Mapping) (kept : Text) → HoldsNo 10 kept → length kept ≢ 0 → answers h kept ≡ answer h kept ++ 10 ∷ []
-open_answers h kept held some = one_answer h kept kept (contact_lines-open kept held (λ none. some (ap length none)))
+open_answers h kept held some =
+    ap (flat_map (λ line. answer h line ++ 10 ∷ [])) (contact_lines-open kept held (λ none. some (ap length none))) ∙ append-nil (answer h kept ++ 10 ∷ [])
 
 pub no_answers : (h : List Mapping) (kept : Text) → length kept ≡ 0 → answers h kept ≡ []
 no_answers h kept none = ap (answers h) (nil_from_length kept none) ∙ ap (flat_map (λ line. answer h line ++ 10 ∷ [])) contact_lines-nil
-
--- a part up to its first line feed is one line
-pub is_one : (part : Text) (feed : ℕ) → IsFirstByte (is_byte 10) part (Some feed) → IsOneLine (take (feed + 1) part)
-is_one part feed h = (take feed part, held_before 10 part feed h, last_at part feed (feed + 1) 10 h.0.high refl (eqb-true _ _ h.1))
-
--- and so it is after the start of a line
-pub is_one_more : (kept rest : Text) → HoldsNo 10 kept → IsOneLine rest → IsOneLine (kept ++ rest)
-is_one_more kept rest held one = (kept ++ one.0, all_append _ kept one.0 held one.1, ap (λ l. kept ++ l) one.2 ∙ sym (append_assoc kept one.0 (10 ∷ [])))
 
 -- the answers to lines after whole lines
 pub answers-append : (m : List Mapping) (xs ys : Text) → EndsLine xs → answers m (xs ++ ys) ≡ answers m xs ++ answers m ys
@@ -82,67 +75,60 @@ front-parts m kept (part ∷ parts) text rest (made, next, later, is, first, oth
 pub all-parts : (m : List Mapping) (parts : List Text) (text kept : Text) → AnswersParts m [] parts text kept → text ++ answers m kept ≡ answers m (flat_map (λ part. part) parts)
 all-parts m parts text kept each = front-all m (flat_map (λ part. part) parts) text kept (front-parts m [] parts text kept each)
 
+pub ruleset stream_laws = (front-none, front-more, front-all, all-parts)
+
 -- ---- one line
 
 -- a part without a line feed is kept as a whole
-pub kept-front : (m : List Mapping) (kept part : Text) → AnswersFront m (kept ++ take (length part) part) [] (kept ++ part)
-kept-front m kept part = rw (take-length part) (front-none m (kept ++ part))
-
-pub kept-held : (kept part : Text) → IsFirstByte (is_byte 10) part None → HoldsNo 10 kept → HoldsNo 10 (kept ++ part)
-kept-held kept part h before = all_append _ kept part before (none_held 10 part (λ k l is. h k (omega arith) l (eq-eqb _ _ is)))
+pub kept_part : (m : List Mapping) (kept part before : Text) → IsFirstByte (is_byte 10) part None → HasRead m kept part before (length part) (kept ++ part) before
+kept_part m kept part before h = record {
+  within = omega arith;
+  some = λ some. some;
+  made = [];
+  text_is = sym (append-nil before);
+  front = rw (take-length part) (front-none m (kept ++ part));
+  no_feed = λ held. all_append _ kept part held (none_held 10 part (λ k l is. h k (omega arith) l (eq-eqb _ _ is)));
+}
 
 -- a line feed ends a line, and answers the kept bytes with it
-pub ended-front : (m : List Mapping) (kept part : Text) (feed : ℕ) → IsFirstByte (is_byte 10) part (Some feed)
-    → AnswersFront m (kept ++ take (length (take (feed + 1) part)) part) (answers m (kept ++ take (feed + 1) part)) []
-ended-front m kept part feed h =
+pub ended_part : (m : List Mapping) (kept part before : Text) (feed : ℕ) → IsFirstByte (is_byte 10) part (Some feed)
+    → HasRead m kept part before (length (take (feed + 1) part)) [] (before ++ answers m (kept ++ take (feed + 1) part))
+ended_part m kept part before feed h =
     let line = take (feed + 1) part in
-    let one = is_one part feed h in
+    let is : line ≡ take feed part ++ 10 ∷ [] = last_at part feed (feed + 1) 10 h.0.high refl (eqb-true _ _ h.1) in
+    let long : length line ≡ feed + 1 = length-take-le (feed + 1) part (omega (arith, h.0.high)) in
     record {
-      whole = kept ++ line;
-      ends = inr (kept ++ one.0, cc (append_assoc kept one.0 (10 ∷ []), one.2));
-      bytes_are = cc (length-take-le (feed + 1) part (omega (arith, h.0.high)), append-nil (kept ++ line));
+      within = omega (arith, h.0.high);
+      some = λ _. omega arith;
+      made = answers m (kept ++ line);
       text_is = refl;
+      front = record {
+        whole = kept ++ line;
+        ends = inr (kept ++ take feed part, cc (append_assoc kept (take feed part) (10 ∷ []), is));
+        bytes_are = cc (long, append-nil (kept ++ line));
+        text_is = refl;
+      };
+      no_feed = λ _. tt;
     }
 
 -- ---- several lines
 
--- the stream has read `taken` bytes of the part, and answered their whole lines
-pub record HasReadPart (old : Stream) (before part : Text) (taken : ℕ) (new : Stream) (after : Text) : Type 0 where
-  pub within : taken ≤ length part
-  pub some : 0 < length part → 0 < taken
-  pub made : Text
-  pub text_is : after ≡ before ++ made
-  pub front : AnswersFront old.mappings (old.kept ++ take taken part) made new.kept
-  pub no_feed : HoldsNo 10 old.kept → HoldsNo 10 new.kept
-  pub same : new.mappings ≡ old.mappings
-
-abbrev Answered : Stream → Text → Text → ℕ → Stream → Text → Type 0
-Answered old before part taken new after = (made : Text) × (after ≡ before ++ made) × AnswersFront old.mappings (old.kept ++ take taken part) made new.kept
-
-abbrev Keeps : Stream → Stream → Type 0
-Keeps old new = (HoldsNo 10 old.kept → HoldsNo 10 new.kept) × (new.mappings ≡ old.mappings)
-
-abbrev Takes : Text → ℕ → Type 0
-Takes part taken = (taken ≤ length part) × (0 < length part → 0 < taken)
+-- the start of the rest of a part
+pub slices : (taken count : ℕ) (part : Text) → take taken part ++ take count (take (length part - taken) (drop taken part)) ≡ take (taken + count) part
+slices taken count part = cc (take_rest part taken, take-add taken count part)
 
 -- one more line, from the rest of the part
-pub next : (old : Stream) (before part : Text) (taken : ℕ) (mid : Stream) (between : Text) (count : ℕ) (new : Stream) (after : Text) → HasReadPart old before part taken mid between
-    → taken < length part → Takes (take (length part - taken) (drop taken part)) count → Answered mid between (take (length part - taken) (drop taken part)) count new after → Keeps mid new
-    → HasReadPart old before part (taken + count) new after
-next old before part taken mid between count new after h more takes w keeps =
-    let rest = take (length part - taken) (drop taken part) in
+pub next : {m : List Mapping} {kept part before left between last after : Text} (taken count : ℕ) → HasRead m kept part before taken left between → taken < length part
+    → HasRead m left (take (length part - taken) (drop taken part)) between count last after → HasRead m kept part before (taken + count) last after
+next {m = m} {kept = kept} {part = part} {before = before} {left = left} {last = last} taken count h more k =
     let size = ap length (take_rest part taken) ∙ length-drop taken part in
-    let bytes_are : (old.kept ++ take taken part) ++ take count rest ≡ old.kept ++ take (taken + count) part =
-    cc (append_assoc old.kept (take taken part) (take count rest), take_rest part taken, take-add taken count part) in
-    let both = front-more old.mappings (old.kept ++ take taken part) h.made mid.kept (take count rest) w.0 new.kept h.front (rw h.same at w.2) in
     record {
-      within = omega (arith, size, takes.0);
-      some = λ _. omega (arith, size, takes.1);
-      made = h.made ++ w.0;
-      text_is = cc (w.1, append_assoc before h.made w.0);
-      front = rw bytes_are at both;
-      no_feed = λ held. keeps.0 (h.no_feed held);
-      same = cc;
+      within = omega (arith, size, k.within);
+      some = λ _. omega (arith, size, k.some);
+      made = h.made ++ k.made;
+      text_is = cc (k.text_is, append_assoc before h.made k.made);
+      front = rw (append_assoc kept (take taken part) _, slices taken count part) at (front-more m (kept ++ take taken part) h.made left _ k.made last h.front k.front);
+      no_feed = λ held. k.no_feed (h.no_feed held);
     }
 
 -- one more answer in the cache is also right

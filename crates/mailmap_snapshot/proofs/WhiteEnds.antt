@@ -23,10 +23,6 @@ trim-trim s = let p = parts s in trim-stays (trim s) p.no_front p.no_end
 pub BeginsWhite-trimmed : (s : List ℕ) → s ≡ trim s → BeginsWhite s → ⊥
 BeginsWhite-trimmed s e h = (parts s).no_front (rw e at h)
 
--- and doesn't end with it
-pub EndsWhite-trimmed : (s : List ℕ) → s ≡ trim s → EndsWhite s → ⊥
-EndsWhite-trimmed s e h = (parts s).no_end (rw e at h)
-
 -- trimming adds no byte
 pub HoldsNo-trim : (x : ℕ) (s : List ℕ) → HoldsNo x s → HoldsNo x (trim s)
 HoldsNo-trim x s h =

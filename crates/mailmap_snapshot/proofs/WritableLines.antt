@@ -1,15 +1,15 @@
 -- The entry of any line can be written as a line, and so can the normal list of entries that can be written.
-use Rattle.std.proofs.Common.{◌≡◌, ◌≢◌, ◌+◌, ℕ, true, false, cond, List, [], ◌∷◌, ◌++◌, flat_map, Option, Some, None, IsSome, IfSome, OnSome, option_to_list, Ok, Err, IfOk, refl, sym, subst, Bool, filter, filter_map, length, IfNone, is_some, unwrap_or, option_map, All, ap, ◌∙◌}
+use Rattle.std.proofs.Common.{◌≡◌, ◌≢◌, ◌+◌, ℕ, true, List, [], ◌∷◌, ◌++◌, flat_map, Option, Some, None, IsSome, IfSome, OnSome, option_to_list, Ok, Err, IfOk, refl, sym, subst, Bool, arith, filter, filter_map, length, IfNone, is_some, unwrap_or, option_map, All, ap, ◌∙◌}
 use Rattle.std.specs.List.{AllByRecursion, cons_option}
 use Rattle.mailmap_grammar.specs.CanonicalText.{IsWritableName, IsWritableEmail, IsWritable}
 use Rattle.mailmap_entries.specs.Folding.{Text, folded, text_cmp}
-use Rattle.mailmap_grammar.specs.Lines.{Reading, ParsedContact, Absent, Unclosed, Closed, HoldsNo, cut, trimmed_contact, non_empty, two_contacts, first_contact, line_reading, is_comment, unless_blank, reading, readings_from, pieces, mappings_in, mappings_of}
+use Rattle.mailmap_grammar.specs.Lines.{Reading, ParsedContact, Absent, Unclosed, Closed, HoldsNo, cut, trimmed_contact, non_empty, two_contacts, first_contact, line_reading, reading, readings_from, pieces, mappings_in, mappings_of}
 use Rattle.mailmap_grammar.specs.Trimming.{trim}
 use Rattle.mailmap_grammar.proofs.FaultLines.{if_read}
 use Rattle.mailmap_grammar.proofs.Grammar.{both-closed}
-use Rattle.mailmap_grammar.proofs.Cut.{cut_at_closing-cut}
+use Rattle.mailmap_grammar.proofs.Cut.{absent_kind, closed_kind, kind, unclosed_kind}
 use Rattle.mailmap_grammar.proofs.LineFeeds.{pieces-hold_no}
-use Rattle.mailmap_entries.proofs.Parts.{all_head, all_tail, all_append, all_apply, all_last, all_weaker, is_some-option_map}
+use Rattle.mailmap_entries.proofs.Parts.{all_head, all_tail, all_append, all_apply, all_last, all_weaker, last_of_one}
 use Rattle.mailmap_snapshot.proofs.WhiteEnds.{trim-trim, HoldsNo-trim}
 use Rattle.std.specs.Option.{option_and_then}
 use Rattle.std.specs.Ordering.{eq_by_cmp}
@@ -26,7 +26,7 @@ use Rattle.mailmap_entries.proofs.Normal.{known}
 -- ---- one line
 
 -- a trimmed contact can be written
-abbrev ContactFits : ParsedContact → Type 0
+abbrev pub ContactFits : ParsedContact → Type 0
 ContactFits Absent = Unit {0}
 ContactFits Unclosed = Unit {0}
 ContactFits (Closed name email rest) = IfSome (non_empty name) IsWritableName × IsWritableEmail email × HoldsNo 10 rest
@@ -36,25 +36,23 @@ name_fits [] same opening line = tt
 name_fits (b ∷ s) same opening line = record { some = λ e. absurd (cc); trimmed = same; no_opening = opening; one_line = line }
 
 -- the contacts of a line can be written
-contact_fits : (s : Text) → HoldsNo 10 s → ContactFits (trimmed_contact (cut s))
-contact_fits s line =
-    elim (cut s) as (λ h. cut s ≡ h → ContactFits (trimmed_contact h)) [
-      | Absent ↦ λ e. tt
-      | Unclosed ↦ λ e. tt
-      | Closed a b c ↦ λ e.
-          let is = cut_at_closing-cut s a b c e in
-          let whole : HoldsNo 10 (a ++ 60 ∷ (b ++ 62 ∷ c)) = subst (HoldsNo 10) is.whole line in
-          let after = all_tail _ a (60 ∷ (b ++ 62 ∷ c)) whole in (
-            name_fits (trim a) (sym (trim-trim a)) (HoldsNo-trim 60 a is.no_opening) (HoldsNo-trim 10 a (all_head _ a (60 ∷ (b ++ 62 ∷ c)) whole)),
-            record { trimmed = sym (trim-trim b); no_closing = HoldsNo-trim 62 b is.no_closing; one_line = HoldsNo-trim 10 b (all_head _ b (62 ∷ c) after.1) },
-            (all_tail _ b (62 ∷ c) after.1).1,
-          )
-    ] refl
+pub contact_fits : (s : Text) → HoldsNo 10 s → ContactFits (trimmed_contact (cut s))
+contact_fits s line = elim (kind s) [
+  | absent_kind none e ↦ rw e tt
+  | unclosed_kind is e ↦ rw e tt
+  | closed_kind a b c is e ↦
+      let whole : HoldsNo 10 (a ++ 60 ∷ (b ++ 62 ∷ c)) = rw is.whole at line in
+      let after = all_tail _ a (60 ∷ (b ++ 62 ∷ c)) whole in
+      rw e (
+        name_fits (trim a) (sym (trim-trim a)) (HoldsNo-trim 60 a is.no_opening) (HoldsNo-trim 10 a (all_head _ a (60 ∷ (b ++ 62 ∷ c)) whole)),
+        record { trimmed = sym (trim-trim b); no_closing = HoldsNo-trim 62 b is.no_closing; one_line = HoldsNo-trim 10 b (all_head _ b (62 ∷ c) after.1) },
+        (all_tail _ b (62 ∷ c) after.1).1,
+      )
+]
 
--- with an old name there is a new email
-with_new_email : (email : Text) (o : Option Text) → OnSome o (IsSome (Some email))
-with_new_email email None = tt
-with_new_email email (Some name) = refl
+on_some : (o : Option Text) (P : Type 0) → P → OnSome o P
+on_some None P p = tt
+on_some (Some s) P p = p
 
 -- the entry of one contact or of two can be written
 two_fit : (n : ℕ) (t name email : Text) (h : ParsedContact) → IfSome (non_empty name) IsWritableName → IsWritableEmail email → email ≢ [] → ContactFits h → IfOk (two_contacts n t name email h) IsWritable
@@ -63,7 +61,7 @@ two_fit n t [] email Unclosed a b some c = tt
 two_fit n t (x ∷ name) email Absent a b some c = record { names = (a, tt); emails = (tt, b); some_new = tt; some_old = some; paired = tt }
 two_fit n t (x ∷ name) email Unclosed a b some c = record { names = (a, tt); emails = (tt, b); some_new = tt; some_old = some; paired = tt }
 two_fit n t name email (Closed d f g) a b some c =
-    subst (λ r. IfOk r IsWritable) (sym (both-closed n t name email d f g)) (record { names = (a, c.0); emails = (b, c.1); some_new = some; some_old = tt; paired = with_new_email email (non_empty d) })
+    subst (λ r. IfOk r IsWritable) (sym (both-closed n t name email d f g)) (record { names = (a, c.0); emails = (b, c.1); some_new = some; some_old = tt; paired = on_some (non_empty d) _ refl })
 
 first_fits : (n : ℕ) (t : Text) (h : ParsedContact) → ContactFits h → IfOk (first_contact (λ name email rest. two_contacts n t name email (trimmed_contact (cut rest))) n t h) IsWritable
 first_fits n t Absent a = tt
@@ -91,31 +89,21 @@ all_read (b ∷ bs) = all_append IsWritable (mappings_of b) (flat_map mappings_o
 
 -- ---- the last field, and the first entry
 
-module _ (f : Mapping → Option Text) where
-  -- what holds for each field holds for the last
-  given_all : (P : Text → Type 0) (l : List Mapping) → AllByRecursion (λ x. IfSome (f x) P) l → IfSome (last_given f l) P
-  given_all P l a = last_all (filter_map f l) (kept l a)
-    where
-      kept_one : (o : Option Text) (ys : List Text) → IfSome o P → AllByRecursion P ys → AllByRecursion P (cons_option o ys)
-      kept_one None ys p a = a
-      kept_one (Some y) ys p a = (p, a)
+last-none : (o : Option Text) (ys : List Text) → last ys ≡ None → last (cons_option o ys) ≡ o
+last-none o ys none = grind arith
 
-      kept : (l : List Mapping) → AllByRecursion (λ x. IfSome (f x) P) l → AllByRecursion P (filter_map f l)
-      kept [] a = tt
-      kept (x ∷ l) a = kept_one (f x) (filter_map f l) a.0 (kept l a.1)
+last-some : (o : Option Text) (ys : List Text) (y : Text) → last ys ≡ Some y → last (cons_option o ys) ≡ Some y
+last-some o ys y some = grind arith
 
-      last_all : (ys : List Text) → AllByRecursion P ys → IfSome (last ys) P
-      last_all [] a = tt
-      last_all (y ∷ ys) a = all_last P y ys a.0 a.1
-
-  -- what holds if some entry lacks the field holds if none has it and there is an entry
-  given_none : (Q : Type 0) (l : List Mapping) → is_some (first l) ≡ true → AllByRecursion (λ x. IfNone (f x) Q) l → IfNone (last_given f l) Q
-  given_none Q [] some a = absurd (cc)
-  given_none Q (x ∷ l) some a = elim (f x) as (λ o. IfNone o Q → IfNone (last (cons_option o (filter_map f l))) Q) [ None ↦ λ q. none_or (last (filter_map f l)) q | Some y ↦ λ _. tt ] a.0
-    where
-      none_or : (o : Option Text) → Q → IfNone o Q
-      none_or None q = q
-      none_or (Some y) q = tt
+-- the last of a field is the field of some entry
+given_by : (f : Mapping → Option Text) (P : Mapping → Type 0) (x : Mapping) (l : List Mapping) → AllByRecursion P (x ∷ l) → (e : Mapping) × P e × (last_given f (x ∷ l) ≡ f e)
+given_by f P x [] all = (x, all.0, last_of_one f x)
+given_by f P x (y ∷ l) all =
+    let w = given_by f P y l all.1 in
+    elim (last_given f (y ∷ l)) as (λ o. last_given f (y ∷ l) ≡ o → (e : Mapping) × P e × (last_given f (x ∷ y ∷ l) ≡ f e)) [
+      | None ↦ λ none. (x, all.0, last-none (f x) (filter_map f (y ∷ l)) none)
+      | Some s ↦ λ some. (w.0, w.1, last-some (f x) (filter_map f (y ∷ l)) s some ∙ sym some ∙ w.2)
+    ] refl
 
 -- what holds for each entry holds for the first
 first_all : {Y : Type 0} (P : Y → Type 0) (f : Mapping → Y) (l : List Mapping) → AllByRecursion (λ x. P (f x)) l → IfSome (option_map f (first l)) P
@@ -132,48 +120,42 @@ if_none : (o : Option Text) (P Q : Type 0) → (P → Q) → IfNone o P → IfNo
 if_none None P Q f p = f p
 if_none (Some s) P Q f p = tt
 
-on_some : (o : Option Text) (P : Type 0) → P → OnSome o P
-on_some None P p = tt
-on_some (Some s) P p = p
+on_same : (o p : Option Text) (P : Type 0) → is_some (option_map folded o) ≡ is_some (option_map folded p) → OnSome o P → OnSome p P
+on_same o None P e h = tt
+on_same None (Some t) P e h = absurd (cc)
+on_same (Some s) (Some t) P e h = h
 
-at_some : (o : Option Text) (P : Type 0) → IsSome o → OnSome o P → P
-at_some None P is p = absurd (cc)
-at_some (Some s) P is p = p
+abbrev FitsKey : Key → Mapping → Type 0
+FitsKey k e = IsWritable e × (k ≡ key e)
 
-none_of_some : (o : Option Text) (Q : Type 0) → IsSome o → IfNone o Q
-none_of_some None Q is = absurd (cc)
-none_of_some (Some s) Q is = tt
+module _ (k : Key) (s : Text) (email : IsWritableEmail s) (same : folded s ≡ k.0) where
+  -- two entries for the key give the new fields
+  mixed : (a b : Mapping) (o : Option Text) → IsWritable a → FitsKey k b → IfSome o IsWritableName → OnSome o (IsSome b.new_email) → IsWritable (mapping_with (record { name = a.new_name; email = b.new_email }) o s)
+  mixed a b o v (w, is) name paired = record {
+    names = (v.names.0, name);
+    emails = (w.emails.0, email);
+    some_new = w.some_new;
+    some_old = if_none b.new_email _ _ (some_folded b.old_email s (ap (λ j. j.0) (sym is) ∙ sym same)) w.some_old;
+    paired = paired;
+  }
 
--- a value without an old name can be written: it has the last of each field
-given_fits : (l : List Mapping) (s : Text) → IsWritableEmail s → is_some (first l) ≡ true → AllByRecursion (λ e. IsWritable e × (folded e.old_email ≡ folded s)) l
-    → IsWritable (mapping_with (record { name = last_given (λ e. e.new_name) l; email = last_given (λ e. e.new_email) l }) None s)
-given_fits l s email some all =
-    record {
-      names = (given_all (λ e. e.new_name) IsWritableName l (each (λ e. IfSome e.new_name IsWritableName) (λ e w same. w.names.0)), tt);
-      emails = (given_all (λ e. e.new_email) IsWritableEmail l (each (λ e. IfSome e.new_email IsWritableEmail) (λ e w same. w.emails.0)), email);
-      some_new = given_all (λ e. e.new_email) (λ t. t ≢ []) l (each (λ e. IfSome e.new_email (λ t. t ≢ [])) (λ e w same. w.some_new));
-      some_old = given_none (λ e. e.new_email) (s ≢ []) l some (each (λ e. IfNone e.new_email (s ≢ [])) (λ e w same. if_none e.new_email _ _ (some_folded e.old_email s same) w.some_old));
-      paired = tt;
-    }
-  where
-    each : (R : Mapping → Type 0) → ((e : Mapping) → IsWritable e → folded e.old_email ≡ folded s → R e) → AllByRecursion R l
-    each R f = all_apply _ _ R (λ e w _. f e w.0 w.1) l all all
+  -- a value without an old name can be written: it has the last of each field
+  given_fits : (l : List Mapping) → is_some (first l) ≡ true → AllByRecursion (FitsKey k) l
+      → IsWritable (mapping_with (record { name = last_given (λ e. e.new_name) l; email = last_given (λ e. e.new_email) l }) None s)
+  given_fits [] some all = absurd (cc)
+  given_fits (x ∷ l) some all =
+      let named = given_by (λ e. e.new_name) (FitsKey k) x l all in
+      let mailed = given_by (λ e. e.new_email) (FitsKey k) x l all in
+      rw (named.2, mailed.2) (mixed named.0 mailed.0 None named.1.0 mailed.1 tt tt)
 
--- a value with an old name can be written: it has the new fields of the last entry, and the name of the first
-named_fits : (l : List Mapping) (s : Text) → IsWritableEmail s → is_some (first l) ≡ true → AllByRecursion (λ e. IsWritable e × IsSome e.old_name) l
-    → IsWritable (mapping_with (unwrap_or (option_map new_fields (last l)) no_fields) (option_and_then (λ e. e.old_name) (first l)) s)
-named_fits [] s email some all = absurd (cc)
-named_fits (x ∷ l) s email some all =
-    let end : Mapping = unwrap_or (last l) x in
-    let w : IsWritable end × IsSome end.old_name = all_last (λ e. IsWritable e × IsSome e.old_name) x l all.0 all.1 in
-    let has : IsSome end.new_email = at_some end.old_name (IsSome end.new_email) w.1 w.0.paired in
-    record {
-      names = (w.0.names.0, all.0.0.names.1);
-      emails = (w.0.emails.0, email);
-      some_new = w.0.some_new;
-      some_old = none_of_some end.new_email (s ≢ []) has;
-      paired = on_some x.old_name (IsSome end.new_email) has;
-    }
+  -- a value with an old name can be written: it has the new fields of the last entry, and the name of the first
+  named_fits : (l : List Mapping) → is_some (first l) ≡ true → AllByRecursion (FitsKey k) l
+      → IsWritable (mapping_with (unwrap_or (option_map new_fields (last l)) no_fields) (option_and_then (λ e. e.old_name) (first l)) s)
+  named_fits [] some all = absurd (cc)
+  named_fits (x ∷ l) some all =
+      let end : Mapping = unwrap_or (last l) x in
+      let w : FitsKey k end = all_last (FitsKey k) x l all.0 all.1 in
+      mixed end end x.old_name w.0 w all.0.0.names.1 (on_same end.old_name x.old_name _ (ap (λ j. is_some j.1) (sym w.1 ∙ all.0.1)) w.0.paired)
 
 module _ (h : List Mapping) (writable : AllByRecursion IsWritable h) where
   -- the accepted entries that a filter selects
@@ -197,22 +179,19 @@ module _ (h : List Mapping) (writable : AllByRecursion IsWritable h) where
     some : is_some (first (of_key h k)) ≡ true
     some = sym (known h k) ∙ has
 
-    keyed : AllByRecursion (λ e. IsWritable e × (k ≡ key e)) (of_key h k)
+    keyed : AllByRecursion (FitsKey k) (of_key h k)
     keyed =
-        all_apply IsWritable (λ e. eq_by_cmp key_cmp k (key e) ≡ true) (λ e. IsWritable e × (k ≡ key e)) (λ e w is. (w, tells_apart keys_exact k (key e) is)) (of_key h k)
+        all_apply IsWritable (λ e. eq_by_cmp key_cmp k (key e) ≡ true) (FitsKey k) (λ e w is. (w, tells_apart keys_exact k (key e) is)) (of_key h k)
         (picked _) (recursion_from_All _ _ (filter_passes (λ e. eq_by_cmp key_cmp k (key e)) (accepted h)))
 
   value_fits : (k : Key) → has_key (accepted h) k ≡ true → IsWritable (value h k)
-  value_fits (email, None) has =
-      let k : Key = (email, None) in
-      let all = all_weaker (of_key h k) (λ e w. (w.0, ap (λ j. j.0) (sym w.1) ∙ sym (kept_folded k has))) (keyed k has) in
-      given_fits (of_key h k) (kept k has) (kept_fits k has) (some k has) all
-  value_fits (email, Some name) has =
-      let k : Key = (email, Some name) in
-      let all = all_weaker (of_key h k) (λ e w. (w.0, is_some-option_map folded e.old_name ∙ ap (λ j. is_some j.1) (sym w.1))) (keyed k has) in
-      named_fits (of_key h k) (kept k has) (kept_fits k has) (some k has) all
+  value_fits (email, None) has = let k : Key = (email, None) in given_fits k (kept k has) (kept_fits k has) (kept_folded k has) (of_key h k) (some k has) (keyed k has)
+  value_fits (email, Some name) has = let k : Key = (email, Some name) in named_fits k (kept k has) (kept_fits k has) (kept_folded k has) (of_key h k) (some k has) (keyed k has)
 
-  pub normal_fits : (n : List Mapping) → IsNormal h n → All IsWritable n
+  normal_fits : (n : List Mapping) → IsNormal h n → All IsWritable n
   normal_fits n d =
       let fits = each_key keys_total keys_exact key (value h) (λ k. IsWritable (value h k)) n (λ k is. value_fits k (sym (d.keys k) ∙ is)) in
       λ i x within. rw (d.values i x within) (All-from_recursion _ n fits i x within)
+
+pub built_fit : (buffers : List Text) (n : List Mapping) → IsNormal (flat_map mappings_of buffers) n → All IsWritable n
+built_fit buffers = normal_fits (flat_map mappings_of buffers) (all_read buffers)

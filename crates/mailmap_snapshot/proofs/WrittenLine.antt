@@ -1,5 +1,5 @@
 -- Parsing the line of an entry gives the entry, and parsing the text of a snapshot gives its entries.
-use Rattle.std.proofs.Common.{inl, ◌≡◌, ◌≢◌, ◌<◌, ℕ, length, true, [], ◌∷◌, ◌++◌, Option, Some, None, IfSome, unwrap_or, Ok, rules, append_assoc, append-nil, arith, refl, sym, ap, ◌∙◌, ◌+◌, List, map, All}
+use Rattle.std.proofs.Common.{inl, ◌≡◌, ◌≢◌, ℕ, length, true, [], ◌∷◌, ◌++◌, Option, Some, None, IfSome, unwrap_or, Ok, rules, append_assoc, append-nil, arith, length-append, refl, sym, ap, ◌∙◌, ◌+◌, List, map, All}
 use Rattle.std.proofs.lemmas.Option.{IfSome_then}
 use Rattle.mailmap_grammar.specs.CanonicalText.{IsWritableName, IsWritableEmail, IsWritable, name_part, bracketed_email, email_part, canonical_line, canonical_text}
 use Rattle.mailmap_entries.specs.Entries.{Mapping}
@@ -7,7 +7,7 @@ use Rattle.mailmap_entries.specs.Folding.{Text}
 use Rattle.mailmap_entries.specs.Semantics.{is_accepted, IsNormal}
 use Rattle.mailmap_grammar.specs.Lines.{HoldsNo, Reading, ParsedContact, Absent, Unclosed, Closed, cut, trimmed_contact, non_empty, two_contacts, strict_contacts, first_contact, line_reading, strict_line_reading, unless_blank, reading_by, reading, strict_reading, readings_from, pieces, readings, strict_readings, mappings_of, mappings_in}
 use Rattle.mailmap_grammar.specs.Trimming.{trim, BeginsWhite, EndsWhite}
-use Rattle.mailmap_grammar.proofs.Grammar.{alone-none, both-closed, some_said, with_email}
+use Rattle.mailmap_grammar.proofs.Grammar.{alone-none, both-closed, some_said, strict-other, with_email}
 use Rattle.mailmap_grammar.proofs.Cut.{cut-absent, cut-cut_at_closing}
 use Rattle.mailmap_grammar.proofs.Plain.{first-white}
 use Rattle.mailmap_grammar.proofs.Trimmed.{begins-before}
@@ -65,10 +65,6 @@ one_line e w = search (rules, all_append, HoldsNo-name_part, name_line, HoldsNo-
 EndsWhite-body : (s r : Text) → EndsWhite (s ++ bracketed_email r) → ⊥
 EndsWhite-body s r h = let e = EndsWhite-ascii 62 (s ++ 60 ∷ r) (omega arith) (rw (append_assoc s (60 ∷ r) (62 ∷ [])) h) in absurd (cc)
 
-some_end : (s r : Text) → s ++ bracketed_email r ≢ []
-some_end [] r e = cc
-some_end (b ∷ s) r e = cc
-
 abbrev mapping : Option Text → Option Text → Option Text → Text → Mapping
 mapping nn ne on oe = record { new_name = nn; new_email = ne; old_name = on; old_email = oe }
 
@@ -76,13 +72,10 @@ mapping nn ne on oe = record { new_name = nn; new_email = ne; old_name = on; old
 BeginsWhite-body : (nn ne on : Option Text) (oe : Text) → IsWritable (mapping nn ne on oe) → is_accepted (mapping nn ne on oe) ≡ true → BeginsWhite (body (mapping nn ne on oe)) → ⊥
 BeginsWhite-body None None on oe w a h = absurd (cc)
 BeginsWhite-body None (Some ne) on oe w a h = let e = first-white (body (mapping None (Some ne) on oe)) (omega arith) h in absurd (cc)
-BeginsWhite-body (Some nn) ne on oe w a h =
-    let whole : body (mapping (Some nn) ne on oe) ≡ nn ++ 32 ∷ (email_part ne ++ (name_part on ++ bracketed_email oe)) = simp append_assoc in
-    BeginsWhite-trimmed nn w.names.0.trimmed (begins-before nn _ (λ _. refl) (some_name nn w.names.0.some) (rw whole at h))
-  where
-    some_name : (s : Text) → s ≢ [] → 0 < length s
-    some_name [] some = absurd (some refl)
-    some_name (b ∷ s) some = omega arith
+BeginsWhite-body (Some []) ne on oe w a h = absurd (w.names.0.some refl)
+BeginsWhite-body (Some (b ∷ s)) ne on oe w a h =
+    let whole : body (mapping (Some (b ∷ s)) ne on oe) ≡ (b ∷ s) ++ 32 ∷ (email_part ne ++ (name_part on ++ bracketed_email oe)) = simp append_assoc in
+    BeginsWhite-trimmed (b ∷ s) w.names.0.trimmed (begins-before (b ∷ s) _ (λ _. refl) (omega arith) (rw whole at h))
 
 -- ---- splitting it into contacts
 
@@ -105,7 +98,7 @@ cut_only nn oe name email =
 
 -- a reader that differs from the lenient one only if the second contact is unclosed
 abbrev Agrees : ℕ → Text → (Text → Text → Text → Reading) → Type 0
-Agrees n t both = (name email rest : Text) (h : ParsedContact) → cut rest ≡ h → h ≢ Unclosed → both name email rest ≡ two_contacts n t name email (trimmed_contact h)
+Agrees n t both = (name email rest : Text) (h : ParsedContact) → trimmed_contact (cut rest) ≡ h → h ≢ Unclosed → both name email rest ≡ two_contacts n t name email h
 
 -- every such reader gives the entry
 says : (both : Text → Text → Text → Reading) (n : ℕ) (t : Text) (nn ne on : Option Text) (oe : Text) → Agrees n t both
@@ -114,25 +107,21 @@ says both n t None None on oe agrees w a = absurd (cc)
 says both n t (Some nn) None (Some on) oe agrees w a = let e = w.paired in absurd (cc)
 says both n t (Some nn) None None oe agrees w a =
     rw (cut_only nn oe w.names.0.no_opening w.emails.1.no_closing, trim-name_part (Some nn) w.names.0, ← w.emails.1.trimmed, with_email both n t nn oe [] w.some_old)
-    (agrees nn oe [] Absent (cut-absent [] tt) (λ e. cc) ∙ alone-none n t nn oe Absent (inl refl) w.names.0.some)
+    (agrees nn oe [] Absent (ap trimmed_contact (cut-absent [] tt)) (λ e. cc) ∙ alone-none n t nn oe Absent (inl refl) w.names.0.some)
 says both n t nn (Some ne) on oe agrees w a =
     let rest = 32 ∷ (name_part on ++ bracketed_email oe) in
-    ap (λ h. first_contact both n t (trimmed_contact h)) (cut_first nn on ne oe (name_opening nn w.names.0) w.emails.0.no_closing)
-    ∙ (λ i. first_contact both n t (Closed (trim-name_part nn w.names.0 i) (sym w.emails.0.trimmed i) rest))
-    ∙ with_email both n t (unwrap_or nn []) ne rest w.some_new
-    ∙ agrees (unwrap_or nn []) ne rest _ (cut_second on oe (name_opening on w.names.1) w.emails.1.no_closing) (λ e. cc)
-    ∙ both-closed n t (unwrap_or nn []) ne (trim (32 ∷ name_part on)) (trim oe) []
-    ∙ (λ i. Ok (mapping (non_empty-name nn w.names.0 i) (Some ne) ((ap non_empty (trim-blank_start (name_part on) ∙ trim-name_part on w.names.1) ∙ non_empty-name on w.names.1) i) (sym w.emails.1.trimmed i)))
+    let second : trimmed_contact (cut rest) ≡ Closed (trim (32 ∷ name_part on)) (trim oe) [] = ap trimmed_contact (cut_second on oe (name_opening on w.names.1) w.emails.1.no_closing) in
+    rw (cut_first nn on ne oe (name_opening nn w.names.0) w.emails.0.no_closing, trim-name_part nn w.names.0, ← w.emails.0.trimmed)
+    (rw (with_email both n t (unwrap_or nn []) ne rest w.some_new, agrees (unwrap_or nn []) ne rest _ second (λ e. cc), both-closed n t (unwrap_or nn []) ne (trim (32 ∷ name_part on)) (trim oe) [])
+    (rw (non_empty-name nn w.names.0, trim-blank_start (name_part on), trim-name_part on w.names.1, non_empty-name on w.names.1, ← w.emails.1.trimmed) refl))
 
 -- lenient parsing is such a reader
 lenient : (n : ℕ) (t : Text) → Agrees n t (λ name email rest. two_contacts n t name email (trimmed_contact (cut rest)))
-lenient n t name email rest h is other = ap (λ h. two_contacts n t name email (trimmed_contact h)) is
+lenient n t name email rest h is other = ap (two_contacts n t name email) is
 
 -- strict parsing is such a reader, too
 strict : (n : ℕ) (t : Text) → Agrees n t (λ name email rest. strict_contacts n t name email rest (trimmed_contact (cut rest)))
-strict n t name email rest Absent is other = ap (λ h. strict_contacts n t name email rest (trimmed_contact h)) is
-strict n t name email rest Unclosed is other = absurd (other refl)
-strict n t name email rest (Closed a b c) is other = ap (λ h. strict_contacts n t name email rest (trimmed_contact h)) is
+strict n t name email rest h is other = ap (strict_contacts n t name email rest) is ∙ strict-other n t name email rest h other
 
 -- ---- the whole line
 
@@ -142,7 +131,7 @@ by_body reads n e w a =
     let front = name_part e.new_name ++ email_part e.new_email ++ name_part e.old_name in
     let same : trim (32 ∷ body e) ≡ body e =
     trim-blank_start (body e) ∙ trim-stays (body e) (BeginsWhite-body e.new_name e.new_email e.old_name e.old_email w a) (EndsWhite-body front e.old_email) in
-    ap (unless_blank reads n) same ∙ some_said reads n (body e) (some_end front e.old_email)
+    ap (unless_blank reads n) same ∙ some_said reads n (body e) (λ none. absurd (omega (arith, ap length none, length-append front (bracketed_email e.old_email))))
 
 -- lenient parsing gives the entry
 pub reading-canonical_line : (n : ℕ) (e : Mapping) → IsWritable e → is_accepted e ≡ true → reading n (32 ∷ body e) ≡ Some (Ok e)
@@ -159,8 +148,7 @@ module _ (read : ℕ → Text → Option Reading) (each : (n : ℕ) (e : Mapping
   from_text : (n : ℕ) (es : List Mapping) → AllByRecursion IsWritable es → AllByRecursion (λ e. is_accepted e ≡ true) es → readings_from read n (pieces (canonical_text es)) ≡ map Ok es
   unfolding readings_from pieces
   from_text n [] w a = refl
-  from_text n (e ∷ es) w a =
-      ap (λ s. readings_from read n (pieces s)) (canonical_line-then e (canonical_text es))
+  from_text n (e ∷ es) w a = ap (λ s. readings_from read n (pieces s)) (canonical_line-then e (canonical_text es))
       ∙ rw (pieces-line (32 ∷ body e) (canonical_text es) (one_line e w.0), each n e w.0 a.0) (ap (λ rs. Ok e ∷ rs) (from_text (n + 1) es w.1 a.1))
 
 mappings_in-map : (es : List Mapping) → mappings_in (map Ok es) ≡ es
@@ -169,20 +157,17 @@ mappings_in-map [] = refl
 mappings_in-map (e ∷ es) = ap (λ l. e ∷ l) (mappings_in-map es)
 
 module _ (v : List Mapping) (normal : IsNormal v v) (writable : All IsWritable v) where
-  all_writable : AllByRecursion IsWritable v
-  all_writable = recursion_from_All _ v writable
-
-  all_accepted : AllByRecursion (λ e. is_accepted e ≡ true) v
-  all_accepted = recursion_from_All _ v (all_good v v normal)
+  read_back : (read : ℕ → Text → Option Reading) → ((n : ℕ) (e : Mapping) → IsWritable e → is_accepted e ≡ true → read n (32 ∷ body e) ≡ Some (Ok e)) → readings_from read 1 (pieces (canonical_text v)) ≡ map Ok v
+  read_back read each = from_text read each 1 v (recursion_from_All _ v writable) (recursion_from_All _ v (all_good v v normal))
 
   -- lenient parsing gives exactly the entries
   pub readings-canonical_text : readings (canonical_text v) ≡ map Ok v
-  readings-canonical_text = from_text reading reading-canonical_line 1 v all_writable all_accepted
+  readings-canonical_text = read_back reading reading-canonical_line
 
   -- strict parsing gives exactly the entries, too
   pub strict_text : strict_readings (canonical_text v) ≡ map Ok v
-  strict_text = from_text strict_reading strict_reading-canonical_line 1 v all_writable all_accepted
+  strict_text = read_back strict_reading strict_reading-canonical_line
 
   -- the mappings of the text are the list that it was written from
-  pub mappings_of-canonical_text : mappings_of (canonical_text v) ≡ v
-  mappings_of-canonical_text = ap mappings_in readings-canonical_text ∙ mappings_in-map v
+  pub mappings_of_canonical_text : mappings_of (canonical_text v) ≡ v
+  mappings_of_canonical_text = ap mappings_in readings-canonical_text ∙ mappings_in-map v

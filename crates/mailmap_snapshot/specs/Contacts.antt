@@ -35,15 +35,16 @@ contact_line (b ∷ name) email = (b ∷ name) ++ 32 ∷ 60 ∷ email ++ 62 ∷ 
 abbrev pub contact_with : Fields → Text → Text → Text
 contact_with f name email = contact_line (unwrap_or f.name name) (unwrap_or f.email email)
 
--- the answer to a line that starts with this contact; a line without a contact is its own answer
-abbrev pub contact_answer : List Mapping → Text → ParsedContact → Text
-contact_answer h line Absent = line
-contact_answer h line Unclosed = line
-contact_answer h line (Closed name email rest) = contact_with (fields_for h name email) name email
+-- the answer to a line that starts with this contact, given the fields for contacts; a line without a contact is its own
+-- answer
+abbrev pub contact_answer : (Text → Text → Fields) → Text → ParsedContact → Text
+contact_answer fields line Absent = line
+contact_answer fields line Unclosed = line
+contact_answer fields line (Closed name email rest) = contact_with (fields name email) name email
 
 -- the answer to a line; a contact is at the start of the trimmed line, and its email may be empty
 abbrev pub answer : List Mapping → Text → Text
-answer h line = contact_answer h line (contact_in line)
+answer h line = contact_answer (fields_for h) line (contact_in line)
 
 -- the answers to lines of contacts, each followed by a line feed
 abbrev pub answers : List Mapping → Text → Text

@@ -6,8 +6,8 @@ pub use Rattle.mailmap_grammar.specs.Lines
 pub use Rattle.mailmap_grammar.specs.CanonicalText
 pub use Rattle.mailmap_entries.specs.Semantics
 pub use Rattle.mailmap_entries.specs.Building
-pub use Rattle.mailmap_signatures.specs.Times
-pub use Rattle.mailmap_signatures.specs.SignatureFields
+pub mod Times
+pub mod SignatureFields
 pub mod Signatures
 pub use Rattle.mailmap_entries.specs.Listings
 pub mod Answers

@@ -6,7 +6,7 @@ use Rattle.std.specs.Ordering.{eq_by_cmp}
 use Rattle.mailmap_entries.specs.Entries.{Mapping}
 use Rattle.mailmap_entries.specs.Folding.{Text, folded, text_cmp}
 use Rattle.mailmap_entries.specs.Semantics.{Fields}
-use Rattle.mailmap_snapshot.specs.declared.snapshot.resolved.ResolvedSignature.{ResolvedSignature}
+use Rattle.mailmap_snapshot.specs.declared.snapshot.lookup.ResolvedSignature.{ResolvedSignature}
 
 -- the name and the email of an answer, independent of where they are in memory
 abbrev pub resolved_fields : ResolvedSignature → Fields

@@ -1,5 +1,5 @@
 -- Contacts that arrive in parts: the answers so far, and the bytes that are kept.
-use Rattle.std.specs.Prelude.{◌≡◌, List, [], ◌∷◌, ◌++◌}
+use Rattle.std.specs.Prelude.{◌≡◌, ◌<◌, ◌≤◌, ℕ, List, [], ◌∷◌, ◌++◌, length, take}
 use Rattle.std.specs.List.{All}
 use Rattle.mailmap_entries.specs.Entries.{Mapping}
 use Rattle.mailmap_entries.specs.Folding.{Text}
@@ -28,9 +28,15 @@ AnswersParts mappings kept (part ∷ parts) text rest =
     (made next later : Text) × (text ≡ made ++ later) × AnswersFront mappings (kept ++ part) made next
     × AnswersParts mappings next parts later rest
 
--- the text is one line with its line feed
-abbrev pub IsOneLine : Text → Type 0
-IsOneLine line = (piece : Text) × HoldsNo 10 piece × (line ≡ piece ++ 10 ∷ [])
+-- after the kept bytes, `taken` bytes of a part are read: the text has grown by the answers to the lines that ended in
+-- them, and the rest is left
+pub record HasRead (mappings : List Mapping) (kept part before : Text) (taken : ℕ) (left after : Text) : Type 0 where
+  pub within : taken ≤ length part
+  pub some : 0 < length part → 0 < taken
+  pub made : Text
+  pub text_is : after ≡ before ++ made
+  pub front : AnswersFront mappings (kept ++ take taken part) made left
+  pub no_feed : HoldsNo 10 kept → HoldsNo 10 left
 
 -- all of these are lines and their answers
 abbrev pub AreCachedAnswers : List Mapping → List CachedLine → Type 0

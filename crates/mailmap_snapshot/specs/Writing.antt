@@ -1,6 +1,6 @@
 -- Results of writing a snapshot.
-use Rattle.std.specs.Prelude.{◌≡◌, ℕ, List, Some, take, slice_get}
-use Rattle.std.specs.List.{All, flat_map}
+use Rattle.std.specs.Prelude.{◌≡◌, ◌<◌, ℕ, List, length}
+use Rattle.std.specs.List.{All, AllWithin, HoldsAt, flat_map}
 use Rattle.mailmap_snapshot.specs.declared.snapshot.text.WriteError.{WriteError}
 use Rattle.mailmap_snapshot.specs.declared.snapshot.text.WriteError.TheVariants.{Unwritable, Memory}
 use Rattle.mailmap_grammar.specs.CanonicalText.{IsWritable, canonical_text}
@@ -11,10 +11,9 @@ use Rattle.mailmap_grammar.specs.Lines.{mappings_of}
 
 -- lines can hold all entries before this index, but not the one at it
 pub record IsFirstUnwritable (es : List Mapping) (index : ℕ) : Type 0 where
-  pub before : All IsWritable (take index es)
-  pub entry : Mapping
-  pub here : slice_get es index ≡ Some entry
-  pub unwritable : ¬ IsWritable entry
+  pub before : AllWithin IsWritable es 0 index
+  pub within : index < length es
+  pub unwritable : HoldsAt (λ e. ¬ IsWritable e) es index
 
 -- why entries weren't written: the first that no line can hold, or out of memory if lines can hold all
 abbrev pub IsUnwrittenBy : List Mapping → WriteError → Type 0

@@ -1,7 +1,10 @@
-//! Snapshots of mailmaps, and their answers to contacts. `gix_mailmap` re-exports both.
+//! Snapshots of mailmaps, their answers to contacts, and signatures of commits. `gix_mailmap` re-exports all of these.
 #![tactic(auto)]
 
+pub mod actor;
 pub mod check;
+pub mod cow;
+pub mod date;
 pub mod laws;
 pub mod snapshot;
 

@@ -5,14 +5,13 @@ mod build;
 mod listing;
 mod lookup;
 mod resolve;
-mod resolved;
 mod sources;
 mod text;
 
+pub use crate::cow::Signature;
 pub use listing::Iter;
-pub use mailmap_signatures::cow::Signature;
+pub use lookup::ResolvedSignature;
 use mailmap_tables::tables::Tables;
-pub use resolved::ResolvedSignature;
 pub use sources::Source;
 use std::alloc::Global;
 use std::marker::Model;
@@ -34,15 +33,16 @@ impl Model for Snapshot {
 
     ghost Value = { List Mapping };
 
-    ghost use Rattle.mailmap_tables.specs.Groups.{listing, IsComplete};
+    ghost use Rattle.mailmap_tables.specs.Groups.{AreGroups, listing};
 
     ghost view = { λ s. listing s.tables.groups };
 
-    ghost invariant = { λ s. IsComplete s.tables };
+    ghost invariant = { λ s. AreGroups s.tables.groups };
 }
 
 impl Snapshot {
     /// An empty snapshot. Allocates nothing.
+    #[tactic(auto, using(mailmap_tables::proofs::Grouped::no_groups))]
     pub fn empty(alloc: Global) -> Snapshot
         ensures { result ≡ [] }
     {

@@ -1,11 +1,12 @@
 -- Distinct texts, and lists that are joined from a part for each.
-use Rattle.std.proofs.Common.{◌≡◌, ◌≢◌, Bool, true, false, true≢false, not, ◌&&◌, List, [], ◌∷◌, ◌++◌, map, filter, append-nil, bytes_eq, refl, sym, ap, ◌∙◌, rules}
+use Rattle.std.proofs.Common.{arith, ◌≡◌, ◌≢◌, Bool, true, false, true≢false, not, ◌&&◌, List, [], ◌∷◌, ◌++◌, map, filter, append-nil, bytes_eq, refl, sym, ap, ◌∙◌, rules, ◌⊎◌, inl, inr, subst, ⊎_elim}
 use Rattle.std.specs.List.{AllByRecursion, flat_map, list_any}
-use Rattle.std.proofs.lemmas.List.Elements.{filter-append, filter_agree}
+use Rattle.std.proofs.lemmas.List.Elements.{filter-append}
 use Rattle.mailmap_entries.specs.Folding.{Text}
+use Rattle.mailmap_entries.proofs.Joined.{filter_none}
 use Rattle.mailmap_entries.proofs.Parts.{all_append, all_weaker, filter-filter}
 use Rattle.mailmap_suggestions.specs.Forms.{distinct}
-use Rattle.mailmap_contacts.proofs.Steps.{all_filtered}
+use Rattle.mailmap_contacts.proofs.Steps.{all_filtered, all_unfiltered}
 use lib.Pointwise.{bytes_decides}
 
 pub same_bytes : (a b : Text) → bytes_eq a b ≡ true → a ≡ b
@@ -15,20 +16,18 @@ pub equal_bytes : (a b : Text) → a ≡ b → bytes_eq a b ≡ true
 equal_bytes a b = (bytes_decides a b).1
 
 not_itself : (b : Bool) → (not b && b) ≡ false
-not_itself true = refl
-not_itself false = refl
+not_itself b = grind arith
 
-filter_nothing : {X : Type 0} (xs : List X) → filter (λ x. false) xs ≡ []
-filter_nothing [] = refl
-filter_nothing (x ∷ xs) = filter_nothing xs
+pub all_of : {X : Type 0} (P : X → Type 0) → ((x : X) → P x) → (xs : List X) → AllByRecursion P xs
+all_of P f [] = tt
+all_of P f (x ∷ xs) = (f x, all_of P f xs)
 
 -- ---- each distinct text occurs once
 
 once_more : (k x : Text) (ds : List Text) → bytes_eq k x ≡ true → filter (bytes_eq k) (filter (λ y. not (bytes_eq x y)) ds) ≡ []
-once_more k x ds same =
-    filter-filter (bytes_eq k) (λ y. not (bytes_eq x y)) ds
-    ∙ filter_agree (λ y. not (bytes_eq x y) && bytes_eq k y) (λ y. false) (λ y. ap (λ t. not (bytes_eq t y) && bytes_eq k y) (sym (same_bytes k x same)) ∙ not_itself (bytes_eq k y)) ds
-    ∙ filter_nothing ds
+once_more k x ds same = filter-filter (bytes_eq k) (λ y. not (bytes_eq x y)) ds
+    ∙ filter_none (λ y. not (bytes_eq x y) && bytes_eq k y) ds (all_of (λ y. (not (bytes_eq x y) && bytes_eq k y) ≡ false)
+    (λ y. ap (λ t. not (bytes_eq t y) && bytes_eq k y) (sym (same_bytes k x same)) ∙ not_itself (bytes_eq k y)) ds)
 
 pub others_stay : (k x : Text) (ds : List Text) → bytes_eq k x ≡ false → filter (bytes_eq k) (filter (λ y. not (bytes_eq x y)) ds) ≡ filter (bytes_eq k) ds
 others_stay k x ds other = search (rules, filter-filter)
@@ -43,13 +42,8 @@ all_distinct P (x ∷ xs) all = (all.0, all_filtered (λ y. not (bytes_eq x y)) 
 
 -- the texts that aren't empty
 pub somes : (xs : List Text) → AllByRecursion (λ t. t ≢ []) (distinct (filter (λ t. not (bytes_eq t [])) xs))
-somes xs =
-    all_distinct (λ t. t ≢ []) (filter (λ t. not (bytes_eq t [])) xs)
-    (all_filtered (λ t. not (bytes_eq t [])) (λ t. Unit {0}) (λ t. t ≢ []) (λ t _ passes e. true≢false (sym passes ∙ ap not (equal_bytes t [] e))) xs (every xs))
-  where
-    every : (xs : List Text) → AllByRecursion (λ t. Unit {0}) xs
-    every [] = tt
-    every (x ∷ xs) = (tt, every xs)
+somes xs = all_distinct (λ t. t ≢ []) (filter (λ t. not (bytes_eq t [])) xs)
+    (all_filtered (λ t. not (bytes_eq t [])) (λ t. Unit {0}) (λ t. t ≢ []) (λ t _ passes e. true≢false (sym passes ∙ ap not (equal_bytes t [] e))) xs (all_of (λ t. Unit {0}) (λ t. tt) xs))
 
 -- ---- joined parts
 
@@ -63,10 +57,8 @@ one_part part k none (x ∷ xs) = search (rules, one_part part k none xs)
 
 -- what a filter keeps of the joined parts for distinct texts, if it keeps nothing of all but one
 pub kept_part : {Y : Type 0} (p : Y → Bool) (part : Text → List Y) (k : Text) (xs : List Text) → list_any (bytes_eq k) xs ≡ true → ((j : Text) → bytes_eq k j ≡ false → filter p (part j) ≡ []) → filter p (flat_map part (distinct xs)) ≡ filter p (part k)
-kept_part p part k xs among none =
-    filter_joined p part (distinct xs)
-    ∙ one_part (λ j. filter p (part j)) k none (distinct xs)
-    ∙ ap (flat_map (λ j. filter p (part j))) (once k xs among)
+kept_part p part k xs among none = filter_joined p part (distinct xs)
+    ∙ one_part (λ j. filter p (part j)) k none (distinct xs) ∙ ap (flat_map (λ j. filter p (part j))) (once k xs among)
     ∙ append-nil (filter p (part k))
 
 pub no_part : {X Y : Type 0} (part : X → List Y) (xs : List X) → AllByRecursion (λ x. part x ≡ []) xs → flat_map part xs ≡ []
@@ -77,17 +69,6 @@ pub all_joined : {X Y : Type 0} (P : Y → Type 0) (part : X → List Y) (xs : L
 all_joined P part [] all = tt
 all_joined P part (x ∷ xs) all = all_append P (part x) (flat_map part xs) all.0 (all_joined P part xs all.1)
 
--- ---- each element of a list
-
-pub all_of : {X : Type 0} (P : X → Type 0) → ((x : X) → P x) → (xs : List X) → AllByRecursion P xs
-all_of P f [] = tt
-all_of P f (x ∷ xs) = (f x, all_of P f xs)
-
--- at the text of each
-pub at_each : {X : Type 0} (text : X → Text) (P : Text → X → Type 0) (xs : List X) → ((k : Text) → AllByRecursion (P k) xs) → AllByRecursion (λ x. P (text x) x) xs
-at_each text P [] all = tt
-at_each text P (x ∷ xs) all = ((all (text x)).0, at_each text P xs (λ k. (all k).1))
-
 -- each text is among all of them
 pub all_among : {X : Type 0} (text : X → Text) (xs : List X) → AllByRecursion (λ x. list_any (bytes_eq (text x)) (map text xs) ≡ true) xs
 all_among text [] = tt
@@ -97,3 +78,25 @@ all_among text (x ∷ xs) = search (rules, all_among text xs, all_weaker)
 pub among_passing : (test : Text → Bool) (k : Text) (xs : List Text) → test k ≡ true → list_any (bytes_eq k) xs ≡ true → list_any (bytes_eq k) (filter test xs) ≡ true
 among_passing test k [] passes among = among
 among_passing test k (x ∷ xs) passes among = search (rules, among_passing test k xs passes)
+
+-- ---- the elements of a list
+
+infix 50 ◌∈◌
+abbrev pub ◌∈◌ : {X : Type 0} → X → List X → Type 0
+x ∈ [] = ⊥
+x ∈ (y ∷ ys) = (y ≡ x) ⊎ (x ∈ ys)
+
+pub each : {X : Type 0} (P : X → Type 0) (xs : List X) → ((x : X) → x ∈ xs → P x) → AllByRecursion P xs
+each P [] f = tt
+each P (x ∷ xs) f = (f x (inl refl), each P xs (λ y i. f y (inr i)))
+
+pub at : {X : Type 0} (P : X → Type 0) (xs : List X) → AllByRecursion P xs → (x : X) → x ∈ xs → P x
+at P [] all x i = absurd i
+at P (y ∷ ys) all x i = ⊎_elim (λ same. subst P same all.0) (λ later. at P ys all.1 x later) i
+
+pub in_filter : {X : Type 0} (p : X → Bool) (xs : List X) (x : X) → x ∈ xs → p x ≡ true → x ∈ filter p xs
+in_filter p xs x i = at (λ y. p y ≡ true → y ∈ filter p xs) xs (all_unfiltered p (λ y. y ∈ filter p xs) xs (each (λ y. y ∈ filter p xs) (filter p xs) (λ y j. j))) x i
+
+pub from_filter : {X : Type 0} (p : X → Bool) (xs : List X) (x : X) → x ∈ filter p xs → (x ∈ xs) × (p x ≡ true)
+from_filter p xs x i = at (λ y. (y ∈ xs) × (p y ≡ true)) (filter p xs)
+    (all_filtered p (λ y. y ∈ xs) (λ y. (y ∈ xs) × (p y ≡ true)) (λ y j passes. (j, passes)) xs (each (λ y. y ∈ xs) xs (λ y j. j))) x i

@@ -1,300 +1,581 @@
--- The entries of all groups unite the contacts by the emails of their answers, and then by the names.
-use Rattle.std.proofs.Common.{List, filter, bytes_eq, ◌≡◌, ◌≢◌, inl, inr, ⊎_elim, true, false, true≢false, if◌then◌else◌, not, [], ◌++◌, map, refl, sym, ap, ◌∙◌, rules, ◌∷◌}
-use Rattle.mailmap_contacts.specs.Contacts.{Contact, answer_to}
-use Rattle.mailmap_entries.specs.Folding.{Text, folded}
-use Rattle.mailmap_suggestions.specs.Forms.{Histories, alike, distinct, entries_to, is_answered}
-use Rattle.std.specs.List.{AllByRecursion, flat_map, list_any}
+-- What suggested entries do: they unite the contacts, can be written, and are read from their text.
+use Rattle.std.proofs.Common.{◌≡◌, ◌+◌, ℕ, None, is_some, option_to_list, List, [], ◌∷◌, ◌++◌, filter, refl, sym, ◌∙◌, rules, ◌≢◌, ◌&&◌, Bool, true, false, ap, append-nil, bytes_eq, if◌then◌else◌, inl, map, not, subst, ⊎_elim, Option, Some, IfSome, unwrap_or, option_map, Ok, zero, suc, decimal, codes, append_assoc, arith}
+use Rattle.std.specs.List.{AllByRecursion, flat_map, list_any, slice_get}
 use Rattle.mailmap_entries.specs.Entries.{Mapping}
+use Rattle.mailmap_entries.specs.Folding.{Text, folded, text_cmp}
+use Rattle.mailmap_entries.specs.Semantics.{first, Fields, accepted, is_accepted, of_email}
+use Rattle.mailmap_entries.proofs.Parts.{filter-map, all_weaker, all_map, all_mapped, all_append}
+use Rattle.mailmap_findings.specs.Positions.{entry}
+use Rattle.mailmap_findings.proofs.Concatenated.{texts}
+use Rattle.mailmap_grammar.specs.CanonicalText.{IsWritable, IsWritableEmail, IsWritableName}
+use Rattle.mailmap_grammar.specs.Lines.{mappings_of, Reading, is_comment, line_reading, reading, reading_by, strict_line_reading, strict_reading, unless_blank, HoldsNo, ParsedContact, mappings_in, pieces, readings_from}
+use Rattle.mailmap_snapshot.proofs.WritableLines.{ContactFits, all_read, contact_fits}
+use Rattle.mailmap_redundancy.specs.Redundancy.{entries}
+use Rattle.mailmap_suggestions.specs.GroupEntries.{HasNoEmptyName, Unites, all_entries, are_alike, contacts, email_entries, email_shared, group_entries, groups, is_grouped, name_entries, name_shared, proper_answer, shared_texts, sharers, IsWritableContact}
+use Rattle.std.proofs.lemmas.Bool.{false_from_ne_true, not-false}
 use Rattle.mailmap_entries.proofs.Joined.{filter_none}
-use Rattle.mailmap_entries.proofs.Parts.{all_apply, all_weaker}
-use Rattle.mailmap_suggestions.specs.Contacts.{git_answer_to}
-use Rattle.mailmap_suggestions.specs.Groups.{are_alike, shared_texts, email_shared, name_shared}
-use Rattle.mailmap_suggestions.proofs.Answers.{affects, parts_answer, parts_stay, Stays, empty_or, folded_empty, git_without_email, unnamed_contact}
-use Rattle.mailmap_suggestions.proofs.Distinct.{all_among, all_of, among_passing, at_each, filter_joined, kept_part, no_part, somes, equal_bytes, same_bytes}
-use Rattle.mailmap_contacts.proofs.Steps.{all_unfiltered, all_filtered}
-use Rattle.mailmap_suggestions.proofs.Exact.{Answered, answered_decides}
-use Rattle.mailmap_suggestions.proofs.OneEmail.{Concerns, Linked, affected_linked, IsWanting, answered_by_same, entries_all, entries_concern, all_true, linked_email}
-use Rattle.std.proofs.lemmas.Bool.{false_from_ne_true}
-use Rattle.mailmap_suggestions.specs.GroupEntries.{HasNoEmptyName}
+use Rattle.mailmap_contacts.specs.Contacts.{Contact, Tally, answer_to, answered, tallied, contact_on, contacts_from, same_contact, tally_on}
+use Rattle.mailmap_contacts.proofs.Steps.{all_filtered}
+use Rattle.mailmap_contacts.proofs.Tallied.{each_tallied, each_untallied}
+use Rattle.mailmap_suggestions.specs.Counted.{counted, by_frequency, git_answered, git_counted, other_git_answers, ranked}
+use Rattle.mailmap_suggestions.specs.Forms.{alike, distinct, entries_for_email, entries_to, git_answer_to, is_answered, long_form, name_unless_empty, named_form, of_old_email, short_form}
+use Rattle.mailmap_suggestions.proofs.Appended.{Stays, affects, empty_or, folded_empty, git_without_email, parts_answer, parts_stay, answer_is, fields, git_is, own_fields, spelled, accepted_all, fields_all, Answered, answered_decides, Concerns, IsWanting, Linked, OfPlain, affected_linked, all_true, answered_by_own, each_entry, email_needed, entries_all, entries_concern, linked_email, of_email_all, unaffected_part}
+use Rattle.mailmap_suggestions.proofs.Distinct.{◌∈◌, all_among, among_passing, at, each, equal_bytes, filter_joined, from_filter, in_filter, no_part, same_bytes, somes, all_joined, all_of}
+use Rattle.mailmap_suggestions.proofs.Grouping.{all_by_frequency, all_named, from_by_frequency, none_named}
+use Rattle.std.specs.Ordering.{eq_by_cmp}
+use Rattle.mailmap_grammar.specs.Trimming.{trim}
+use Rattle.mailmap_snapshot.proofs.WhiteEnds.{trim-blank_start, HoldsNo-trim, trim-nil}
+use Rattle.mailmap_snapshot.proofs.WrittenLine.{body, reading-canonical_line, strict_reading-canonical_line, one_line}
+use Rattle.mailmap_suggestions.specs.SuggestedText.{entry_line, by_git, count_line, count_lines, entry_lines, group_text, reviewed_text, mark, suggested_text, text_by}
+use Rattle.std.specs.Fmt.{digits, digits_onto}
+use Rattle.std.specs.Result.{result_ok}
+use Rattle.contact_counter.specs.declared.occurrences.Occurrences.{Occurrences}
+use Rattle.mailmap_grammar.proofs.LineFeeds.{pieces-line}
+use Rattle.mailmap_snapshot.specs.Contacts.{contact_line}
 
-abbrev pub sharing : (Contact → Text) → Histories → List Contact → Text → List Contact
-sharing shared h cs text = filter (λ c. bytes_eq text (shared (answer_to h.ours c))) cs
+-- ==== no new name that is read is empty
 
--- ==== the entries of all groups make the answers of each group the one that is wanted, and change no other
+pub writable_named : (h : List Mapping) → AllByRecursion IsWritable h → AllByRecursion HasNoEmptyName h
+writable_named h writable = search (rules, all_weaker)
 
--- what the laws need: `In` holds for each contact, and `to` gives the contact that is wanted for each shared text
-pub record CanUnite (h : List Mapping) (cs : List Contact) (shared : Contact → Text) (In : Contact → Type 0) (to : Text → Contact) : Type 0 where
-  pub each_in : AllByRecursion In cs
-  -- linked contacts share what their answers share
-  pub together : (b c : Contact) → In b → In c → Linked h b c → shared (answer_to h c) ≢ [] → shared (answer_to h b) ≡ shared (answer_to h c)
-  pub wanting : (text : Text) → text ≢ [] → AllByRecursion (IsWanting h (to text)) (sharing shared (alike h) cs text)
-  -- if all are answered alike, then by the wanted contact
-  pub if_alike : (text : Text) → text ≢ [] → are_alike (alike h) (sharing shared (alike h) cs text) ≡ true → AllByRecursion (Answered h (to text)) (sharing shared (alike h) cs text)
+pub lines_named : (buffers : List Text) → AllByRecursion HasNoEmptyName (flat_map mappings_of buffers)
+lines_named buffers = writable_named (flat_map mappings_of buffers) (all_read buffers)
 
-linked_back : (h : List Mapping) (b c : Contact) → Linked h b c → Linked h c b
-linked_back h b c l = record { emails = sym l.emails; names = ⊎_elim (λ same. inl (sym same)) (λ none. inr (none.1, none.0)) l.names }
+-- ==== the suggested entries unite the contacts by the emails of their answers, and then by the names
 
--- what holds of the contacts that share a text, for each text, holds of each contact that shares some
-pub at_shared : (h : List Mapping) (shared : Contact → Text) (X : Text → Contact → Type 0) (cs : List Contact)
-    → ((text : Text) → text ≢ [] → AllByRecursion (X text) (sharing shared (alike h) cs text))
-    → AllByRecursion (λ c. shared (answer_to h c) ≢ [] → X (shared (answer_to h c)) c) cs
-at_shared h shared X cs all =
-    let text_of : Contact → Text = λ c. shared (answer_to h c) in
-    let IsSo : Text → Contact → Type 0 = λ text c. text ≢ [] → bytes_eq text (text_of c) ≡ true → X text c in
-    all_weaker cs (λ c f some. f some (equal_bytes (text_of c) (text_of c) refl))
-    (at_each text_of IsSo cs (λ text. ⊎_elim
-    (λ empty. all_of (IsSo text) (λ c some. absurd (some empty)) cs)
-    (λ some. all_weaker cs (λ c f _. f) (all_unfiltered (λ c. bytes_eq text (text_of c)) (X text) cs (all text some)))
-    (empty_or text)))
+-- ---- the proper answer
 
-module _ (h : List Mapping) (cs : List Contact) (shared : Contact → Text) (In : Contact → Type 0) (to : Text → Contact) (can : CanUnite h cs shared In to) where
-  abbrev sharers : Text → List Contact
-  sharers text = sharing shared (alike h) cs text
+abbrev pub Each : (Contact → Type 0) → List Tally → Type 0
+Each P ts = AllByRecursion (λ t. P t.contact) ts
 
-  unfoldable pub part : Text → List Mapping
-  part text = if not (are_alike (alike h) (sharers text)) then entries_to (alike h) (to text) (sharers text) else []
+pub each_counted : (P : Contact → Type 0) (h : List Mapping) (g : List Tally) → AllByRecursion (λ c. P (answer_to h c)) (contacts g) → Each P (counted (alike h) g)
+each_counted P h g all = all_by_frequency (λ t. P t.contact) (tallied (map (answered h) g))
+    (each_tallied P (map (answered h) g) (all_mapped (answered h) (λ u. P u.contact) g (all_map (λ u. u.contact) (λ c. P (answer_to h c)) g all)))
 
-  abbrev texts : List Text
-  texts = filter (λ text. not (bytes_eq text [])) (map (λ c. shared (answer_to h c)) cs)
+from_counted : (P : Contact → Type 0) (h : List Mapping) (g : List Tally) → Each P (counted (alike h) g) → AllByRecursion (λ c. P (answer_to h c)) (contacts g)
+from_counted P h g all = all_mapped (λ u. u.contact) (λ c. P (answer_to h c)) g
+    (all_map (answered h) (λ u. P u.contact) g
+    (each_untallied P (map (answered h) g) (from_by_frequency (tallied (map (answered h) g)) (λ t. P t.contact) all)))
 
-  abbrev pub whole : List Mapping
-  whole = flat_map part (shared_texts shared (alike h) cs)
+-- it is the answer to one of them
+pub proper_comes : (h : List Mapping) (g : List Tally) (c : Contact) → c ∈ contacts g → (d : Contact) × (d ∈ contacts g) × (answer_to h d ≡ proper_answer (alike h) g)
+proper_comes h g c i =
+    let Comes : Contact → Type 0 = λ a. (d : Contact) × (d ∈ contacts g) × (answer_to h d ≡ a) in
+    all_named Comes (counted (alike h) g)
+    (λ none. at (λ _. ⊥) (contacts g) (from_counted (λ _. ⊥) h g (subst (Each (λ _. ⊥)) (sym none) tt)) c i)
+    (each_counted Comes h g (each (λ c. Comes (answer_to h c)) (contacts g) (λ d j. (d, j, refl))))
 
-  abbrev IsSharer : Text → Contact → Type 0
-  IsSharer text c = In c × (shared (answer_to h c) ≡ text)
+-- and a named one if there is one
+pub proper_named : (h : List Mapping) (g : List Tally) → (proper_answer (alike h) g).name ≡ [] → AllByRecursion (λ c. (answer_to h c).name ≡ []) (contacts g)
+proper_named h g empty = from_counted (λ c. c.name ≡ []) h g (none_named (slice_get (counted (alike h) g) 0) (counted (alike h) g) empty)
 
-  abbrev IsConcern : Text → Mapping → Type 0
-  IsConcern text x = (email : Text) × Concerns h (IsSharer text) email x
+-- ==== the entries of all groups make the answers of each group its proper one, and change no other
 
-  concerned : (text : Text) → AllByRecursion (IsConcern text) (part text)
+alike_all : (h : List Mapping) (cs : List Contact) → are_alike (alike h) cs ≡ true → (c d : Contact) → c ∈ cs → d ∈ cs → Answered h (answer_to h d) c
+alike_all h [] is c d i j = absurd i
+alike_all h (x ∷ xs) is c d i j =
+    let a = answer_to h x in
+    let all : AllByRecursion (Answered h a) (x ∷ xs) = all_true (is_answered (alike h) a) (Answered h a) (λ e. (answered_decides h a e).0) (x ∷ xs) is in
+    let of_c = at (Answered h a) (x ∷ xs) all c i in
+    let of_d = at (Answered h a) (x ∷ xs) all d j in
+    (of_c.0 ∙ sym of_d.0, of_c.1 ∙ sym of_d.0)
+
+flat_filtered : {X Y Z : Type 0} (f : X → Y) (q : Y → Bool) (F : Y → List Z) (xs : List X) → flat_map F (filter q (map f xs)) ≡ flat_map (λ x. if q (f x) then F (f x) else []) xs
+flat_filtered f q F [] = refl
+flat_filtered f q F (x ∷ xs) = search (rules, flat_filtered f q F xs)
+
+-- what holds of those who share a text holds of the groups
+each_group : (shared : Contact → Text) (h : List Mapping) (ts : List Tally) (Q : List Tally → Type 0) → ((t : Text) → t ≢ [] → Q (sharers shared (alike h) ts t)) → AllByRecursion Q (groups shared (alike h) ts)
+each_group shared h ts Q f =
+    let texts = shared_texts shared (alike h) (contacts ts) in
+    all_filtered (λ g. not (are_alike (alike h) (contacts g))) Q Q (λ g q _. q) (map (sharers shared (alike h) ts) texts)
+    (all_mapped (sharers shared (alike h) ts) Q texts (all_weaker texts f (somes (map (λ c. shared (answer_to h c)) (contacts ts)))))
+
+-- what the entries need of new names
+named_forms : (to c : Contact) → OfPlain HasNoEmptyName to c × HasNoEmptyName (named_form to c)
+named_forms to c = search (rules, equal_bytes)
+
+module _ (h : List Mapping) (ts : List Tally) (shared : Contact → Text) (named : AllByRecursion HasNoEmptyName h) where
+  abbrev pub text : Contact → Text
+  text c = shared (answer_to h c)
+
+  abbrev members : Text → List Tally
+  members t = sharers shared (alike h) ts t
+
+  abbrev pub group : Text → List Contact
+  group t = contacts (members t)
+
+  abbrev pub wanted : Text → Contact
+  wanted t = proper_answer (alike h) (members t)
+
+  abbrev all_texts : List Text
+  all_texts = filter (λ t. not (bytes_eq t [])) (map text (contacts ts))
+
+  group_is : (t : Text) → group t ≡ filter (λ c. bytes_eq t (text c)) (contacts ts)
+  group_is t = sym (filter-map (λ c. bytes_eq t (text c)) (λ (u : Tally). u.contact) ts)
+
+  in_group : (c : Contact) → c ∈ contacts ts → c ∈ group (text c)
+  in_group c i = search (rules, group_is, in_filter, equal_bytes)
+
+  pub from_group : (t : Text) (c : Contact) → c ∈ group t → (c ∈ contacts ts) × (text c ≡ t)
+  from_group t c i = search (rules, group_is, from_filter, same_bytes)
+
+  part : Text → List Mapping
+  part t = if not (are_alike (alike h) (group t)) then group_entries (alike h) (members t) else []
+
+  abbrev added : List Mapping
+  added = all_entries shared (alike h) ts
+
+  added_are : added ≡ flat_map part (distinct all_texts)
   unfolding part
-  concerned text =
-      elim (are_alike (alike h) (sharers text)) as (λ b. AllByRecursion (IsConcern text) (if not b then entries_to (alike h) (to text) (sharers text) else [])) [
+  added_are = flat_filtered (sharers shared (alike h) ts) (λ g. not (are_alike (alike h) (contacts g))) (group_entries (alike h)) (shared_texts shared (alike h) (contacts ts))
+
+  pub added_named : AllByRecursion HasNoEmptyName (h ++ added)
+  added_named =
+      let gs = groups shared (alike h) ts in
+      all_append HasNoEmptyName h added named (all_joined HasNoEmptyName (group_entries (alike h)) gs
+      (all_of (λ g. AllByRecursion HasNoEmptyName (group_entries (alike h) g)) (λ g. each_entry HasNoEmptyName (proper_answer (alike h) g) (named_forms (proper_answer (alike h) g)) (alike h) (contacts g)) gs))
+
+  abbrev Shares : Text → Contact → Type 0
+  Shares t b = (b ∈ contacts ts) × (text b ≡ t)
+
+  concerned : (t : Text) → AllByRecursion (Concerns h (Shares t)) (part t)
+  unfolding part
+  concerned t =
+      elim (are_alike (alike h) (group t)) as (λ b. AllByRecursion (Concerns h (Shares t)) (if not b then group_entries (alike h) (members t) else [])) [
         | true ↦ tt
-        | false ↦ entries_concern h (to text) (sharers text) (IsSharer text)
-            (all_filtered (λ c. bytes_eq text (shared (answer_to h c))) In (IsSharer text) (λ c is same. (is, sym (same_bytes text (shared (answer_to h c)) same))) cs can.each_in)
+        | false ↦ entries_concern h (Shares t) (wanted t) (group t) (each (Shares t) (group t) (from_group t))
       ]
 
-  -- entries of another group
-  other_part : (c : Contact) → In c → shared (answer_to h c) ≢ [] → (j : Text) → bytes_eq (shared (answer_to h c)) j ≡ false → filter (affects h c) (part j) ≡ []
-  other_part c is some j other =
-      filter_none (affects h c) (part j)
-      (all_weaker (part j) (λ x concern. false_from_ne_true (affects h c x)
-      (λ affected. let b = concern.1.is_in in
-      let linked = affected_linked h (IsSharer j) concern.0 x c concern.1 affected in
-      true≢false (sym (equal_bytes (shared (answer_to h c)) j (sym (can.together concern.1.b c b.0 is linked some) ∙ b.1)) ∙ other)))
-      (concerned j))
+  if_alike : (c : Contact) → c ∈ contacts ts → are_alike (alike h) (group (text c)) ≡ true → Answered h (wanted (text c)) c
+  if_alike c i is =
+      let d = proper_comes h (members (text c)) c (in_group c i) in
+      subst (λ a. Answered h a c) d.2 (alike_all h (group (text c)) is c d.0 (in_group c i) d.1)
 
-  for_text : (text : Text) → text ≢ [] → AllByRecursion (Answered (h ++ part text) (to text)) (sharers text)
+  pub wanting : (t : Text) → AllByRecursion (IsWanting h (wanted t)) (group t)
+  wanting t = each (IsWanting h (wanted t)) (group t) (λ c i e. at (λ c. (answer_to h c).name ≡ []) (group t) (proper_named h (members t) e) c i)
+
+  for_text : (c : Contact) → c ∈ contacts ts → Answered (h ++ part (text c)) (wanted (text c)) c
   unfolding part
-  for_text text some = search (rules, entries_all)
+  for_text c i =
+      elim (are_alike (alike h) (group (text c))) as (λ b. are_alike (alike h) (group (text c)) ≡ b → Answered (h ++ (if not b then group_entries (alike h) (members (text c)) else [])) (wanted (text c)) c) [
+        | true ↦ λ is. subst (λ l. Answered l (wanted (text c)) c) (sym (append-nil h)) (if_alike c i is)
+        | false ↦ λ _.
+            at (Answered (h ++ group_entries (alike h) (members (text c))) (wanted (text c))) (group (text c))
+            (entries_all (group (text c)) h named (wanted (text c)) (wanting (text c))) c (in_group c i)
+      ] refl
 
-  abbrev text_of : Contact → Text
-  text_of c = shared (answer_to h c)
+  -- linked contacts share what their answers share
+  module _ (together : (b c : Contact) → b ∈ contacts ts → c ∈ contacts ts → Linked h b c → text b ≡ text c) where
+    alone : (c : Contact) → c ∈ contacts ts → (t : Text) → AllByRecursion (λ x. affects h c x ≡ true → t ≡ text c) (part t)
+    alone c i t = all_weaker (part t) (λ x concern affected. sym (concern.is_in).1 ∙ together concern.b c (concern.is_in).0 i (affected_linked h (Shares t) x c concern affected)) (concerned t)
 
-  abbrev IsAmong : Contact → Type 0
-  IsAmong c = list_any (bytes_eq (text_of c)) (map text_of cs) ≡ true
+    pub grouped : (c : Contact) → c ∈ contacts ts → text c ≢ [] → Answered (h ++ added) (wanted (text c)) c
+    grouped c i some =
+        let passes : not (bytes_eq (text c) []) ≡ true = ap not (false_from_ne_true (bytes_eq (text c) []) (λ e. some (same_bytes (text c) [] e))) in
+        let among = among_passing (λ t. not (bytes_eq t [])) (text c) (map text (contacts ts)) passes (at (λ c. list_any (bytes_eq (text c)) (map text (contacts ts)) ≡ true) (contacts ts) (all_among text (contacts ts)) c i) in
+        subst (λ l. Answered (h ++ l) (wanted (text c)) c) (sym added_are) (answered_by_own h c part (text c) (alone c i) (wanted (text c)) all_texts among (for_text c i))
 
-  one_grouped : (c : Contact) → In c → IsAmong c → (text_of c ≢ [] → Answered (h ++ part (text_of c)) (to (text_of c)) c) → text_of c ≢ [] → Answered (h ++ whole) (to (text_of c)) c
-  one_grouped c is among answered some =
-      let text = text_of c in
-      let passes : not (bytes_eq text []) ≡ true = ap not (false_from_ne_true (bytes_eq text []) (λ e. some (same_bytes text [] e))) in
-      answered_by_same h (part text) whole (to text) c
-      (sym (kept_part (affects h c) part text texts (among_passing (λ t. not (bytes_eq t [])) text (map text_of cs) passes among) (other_part c is some)))
-      (answered some)
+    -- each contact whose answer shares nothing is answered as before
+    pub others : (c : Contact) → c ∈ contacts ts → text c ≡ [] → Stays h added c
+    others c i none = parts_answer c (h ++ added) h (parts_stay h c added (ap (filter (affects h c)) added_are ∙ filter_joined (affects h c) part (distinct all_texts)
+        ∙ no_part (λ t. filter (affects h c) (part t)) (distinct all_texts) (all_weaker (distinct all_texts) (λ t some. unaffected_part h c part (text c) (alone c i) t (λ e. some (e ∙ none))) (somes (map text (contacts ts))))))
 
-  -- each contact of a group is answered by the wanted one
-  pub grouped : AllByRecursion (λ c. text_of c ≢ [] → Answered (h ++ whole) (to (text_of c)) c) cs
-  grouped =
-      all_apply (λ c. In c × IsAmong c) (λ c. text_of c ≢ [] → Answered (h ++ part (text_of c)) (to (text_of c)) c) (λ c. text_of c ≢ [] → Answered (h ++ whole) (to (text_of c)) c)
-      (λ c is answered. one_grouped c is.0 is.1 answered) cs
-      (all_apply In IsAmong (λ c. In c × IsAmong c) (λ c is among. (is, among)) cs can.each_in (all_among text_of cs))
-      (at_shared h shared (λ text. Answered (h ++ part text) (to text)) cs for_text)
+    -- each answer was one before, to a contact that was given
+    pub comes : (c : Contact) → c ∈ contacts ts → (d : Contact) × (d ∈ contacts ts) × (answer_to h d ≡ answer_to (h ++ added) c) × (text d ≡ text c)
+    comes c i = ⊎_elim (λ none. (c, i, sym (others c i none).0, refl)) (λ some.
+        let d = proper_comes h (members (text c)) c (in_group c i) in
+        let found = from_group (text c) d.0 d.1 in
+        (d.0, found.0, d.2 ∙ sym (grouped c i some).0, found.1)) (empty_or (text c))
 
-  any_part : (c : Contact) → In c → shared (answer_to h c) ≡ [] → (j : Text) → j ≢ [] → filter (affects h c) (part j) ≡ []
-  any_part c is none j some =
-      filter_none (affects h c) (part j)
-      (all_weaker (part j) (λ x concern. false_from_ne_true (affects h c x)
-      (λ affected. let b = concern.1.is_in in
-      let linked = affected_linked h (IsSharer j) concern.0 x c concern.1 affected in
-      some (sym b.1 ∙ sym (can.together c concern.1.b is b.0 (linked_back h concern.1.b c linked) (λ e. some (sym b.1 ∙ e))) ∙ none)))
-      (concerned j))
+    -- so it shares what it shared
+    shares : (c : Contact) → c ∈ contacts ts → shared (answer_to (h ++ added) c) ≡ text c
+    shares c i = let d = comes c i in ap shared (sym d.2) ∙ d.3
 
-  -- each contact whose answer shares nothing is answered as before
-  pub others : AllByRecursion (λ c. shared (answer_to h c) ≡ [] → Stays h whole c) cs
-  others =
-      all_weaker cs (λ c is none.
-      let nothing : filter (affects h c) whole ≡ [] =
-      filter_joined (affects h c) part (distinct texts)
-      ∙ no_part (λ j. filter (affects h c) (part j)) (distinct texts) (all_weaker (distinct texts) (λ j some. any_part c is none j some) (somes (map (λ c. shared (answer_to h c)) cs))) in
-      parts_answer c (h ++ whole) h (parts_stay h c whole nothing))
-      can.each_in
+    pub one_by_text : (b c : Contact) → b ∈ contacts ts → c ∈ contacts ts → shared (answer_to (h ++ added) b) ≡ shared (answer_to (h ++ added) c) → shared (answer_to (h ++ added) c) ≢ []
+        → answer_to (h ++ added) b ≡ answer_to (h ++ added) c
+    one_by_text b c i j same some = search (rules, shares, grouped)
 
--- ==== after the entries of all groups no two answers share what made the groups and differ
+    other_stays : (c : Contact) → c ∈ contacts ts → is_grouped shared (alike h) ts c ≡ false → Stays h added c
+    other_stays c i out = ⊎_elim (others c i) (λ some.
+        let so = not-false _ (sym (ap (λ b. not b && not (are_alike (alike h) (group (text c)))) (false_from_ne_true (bytes_eq (text c) []) (λ e. some (same_bytes (text c) [] e)))) ∙ out) in
+        let before = if_alike c i so in
+        ((grouped c i some).0 ∙ sym before.0, (grouped c i some).1 ∙ sym before.1)) (empty_or (text c))
 
--- `to` is one of the answers to these contacts, and a named one if there is one
-pub record IsProper (h : List Mapping) (cs : List Contact) (to : Contact) : Type 1 where
-  pub among : (P : Contact → Type 0) → AllByRecursion (λ c. P (answer_to h c)) cs → P to
-  pub named : to.name ≡ [] → AllByRecursion (λ c. (answer_to h c).name ≡ []) cs
+    module _ (git : (c : Contact) → c ∈ contacts ts → text c ≡ [] → git_answer_to h c ≡ answer_to h c) where
+      -- git answers as this library does
+      pub git_agrees : (c : Contact) → c ∈ contacts ts → git_answer_to (h ++ added) c ≡ answer_to (h ++ added) c
+      git_agrees c i = ⊎_elim (λ none. (others c i none).1 ∙ git c i none ∙ sym (others c i none).0)
+          (λ some. (grouped c i some).1 ∙ sym (grouped c i some).0) (empty_or (text c))
 
-abbrev pub IsProperIfAny : List Mapping → List Contact → Contact → Type 1
-IsProperIfAny h [] to = Unit {1}
-IsProperIfAny h (c ∷ cs) to = IsProper h (c ∷ cs) to
+      pub unites : Unites shared h ts (h ++ added)
+      unites =
+          let cs = contacts ts in
+          record {
+            groups = each_group shared h ts (λ g. AllByRecursion (λ c. answer_to (h ++ added) c ≡ proper_answer (alike h) g) (contacts g)) (λ t some. each (λ c. answer_to (h ++ added) c ≡ wanted t) (group t)
+                (λ c i. let found = from_group t c i in (grouped c found.0 (λ e. some (sym found.1 ∙ e))).0 ∙ ap wanted found.1));
+            others = each (λ c. is_grouped shared (alike h) ts c ≡ false → Stays h added c) cs other_stays;
+            distinct =
+                each (λ b. AllByRecursion (λ c. shared (answer_to (h ++ added) b) ≡ shared (answer_to (h ++ added) c) → shared (answer_to (h ++ added) c) ≢ [] → answer_to (h ++ added) b ≡ answer_to (h ++ added) c) cs) cs
+                (λ b i. each (λ c. shared (answer_to (h ++ added) b) ≡ shared (answer_to (h ++ added) c) → shared (answer_to (h ++ added) c) ≢ [] → answer_to (h ++ added) b ≡ answer_to (h ++ added) c) cs
+                (λ c j. one_by_text b c i j));
+            git = each (λ c. git_answer_to (h ++ added) c ≡ answer_to (h ++ added) c) cs git_agrees;
+          }
 
--- what holds of a contact after that, with the mappings g
-pub record IsUnited (h g : List Mapping) (shared : Contact → Text) (In : Contact → Type 0) (to : Text → Contact) (c : Contact) : Type 0 where
-  pub grouped : shared (answer_to h c) ≢ [] → Answered g (to (shared (answer_to h c))) c
-  pub shares : shared (answer_to h c) ≢ [] → shared (to (shared (answer_to h c))) ≡ shared (answer_to h c)
-  pub comes : shared (answer_to h c) ≢ [] → (d : Contact) × In d × (answer_to h d ≡ to (shared (answer_to h c)))
-  pub other : shared (answer_to h c) ≡ [] → (answer_to g c ≡ answer_to h c) × (git_answer_to g c ≡ git_answer_to h c)
-
-module _ (h : List Mapping) (cs : List Contact) (shared : Contact → Text) (In : Contact → Type 0) (to : Text → Contact) where
-  abbrev members : Text → List Contact
-  members text = sharing shared (alike h) cs text
-
-  wanting_one : (members : List Contact) (to : Contact) → IsProperIfAny h members to → AllByRecursion (λ c. (answer_to h c).name ≡ [] → c.name ≡ []) members → AllByRecursion (IsWanting h to) members
-  wanting_one [] to proper named = tt
-  wanting_one (c ∷ cs) to proper named =
-      wanting (c ∷ cs) (λ empty. proper.named empty) named
-    where
-      wanting : (ds : List Contact) → (to.name ≡ [] → AllByRecursion (λ d. (answer_to h d).name ≡ []) ds) → AllByRecursion (λ c. (answer_to h c).name ≡ [] → c.name ≡ []) ds → AllByRecursion (IsWanting h to) ds
-      wanting [] empty named = tt
-      wanting (d ∷ ds) empty named = (
-        record { fits = λ e. named.0 ((empty e).0); unnamed = λ e. (empty e).0 },
-        wanting ds (λ e. (empty e).1) named.1,
-      )
-
-  alike_one : (members : List Contact) (to : Contact) → IsProperIfAny h members to → are_alike (alike h) members ≡ true → AllByRecursion (Answered h to) members
-  alike_one [] to proper same = tt
-  alike_one (c ∷ cs) to proper same =
-      let a = answer_to h c in
-      let all : AllByRecursion (Answered h a) (c ∷ cs) = all_true (is_answered (alike h) a) (Answered h a) (λ d. (answered_decides h a d).0) (c ∷ cs) same in
-      let is : to ≡ a = proper.among (λ x. x ≡ a) (all_weaker (c ∷ cs) (λ d p. p.0) all) in
-      all_weaker (c ∷ cs) (λ d p. (p.0 ∙ sym is, p.1 ∙ sym is)) all
-
-  pub can_unite : AllByRecursion In cs
-      → ((b c : Contact) → In b → In c → Linked h b c → shared (answer_to h c) ≢ [] → shared (answer_to h b) ≡ shared (answer_to h c))
-      → ((c : Contact) → In c → shared (answer_to h c) ≢ [] → (answer_to h c).name ≡ [] → c.name ≡ [])
-      → ((text : Text) → text ≢ [] → IsProperIfAny h (members text) (to text))
-      → CanUnite h cs shared In to
-  can_unite each_in together named proper =
-      record {
-        each_in = each_in;
-        together = together;
-        wanting = λ text some. wanting_one (members text) (to text) (proper text some)
-            (all_filtered (λ c. bytes_eq text (shared (answer_to h c))) In (λ c. (answer_to h c).name ≡ [] → c.name ≡ [])
-            (λ c is same. named c is (λ e. some (same_bytes text (shared (answer_to h c)) same ∙ e))) cs each_in);
-        if_alike = λ text some. alike_one (members text) (to text) (proper text some);
-      }
-
-  module _ (can : CanUnite h cs shared In to) (proper : (text : Text) → text ≢ [] → IsProperIfAny h (members text) (to text)) where
-    -- what is known of the wanted contact of a text, if it has contacts
-    abbrev Known : Text → Type 0
-    Known text = (shared (to text) ≡ text) × ((d : Contact) × In d × (answer_to h d ≡ to text))
-
-    known_one : (text : Text) (ds : List Contact) → IsProperIfAny h ds (to text) → AllByRecursion (λ d. In d × (shared (answer_to h d) ≡ text)) ds → AllByRecursion (λ d. Known text) ds
-    known_one text [] proper all = tt
-    known_one text (d ∷ ds) proper all =
-        let known : Known text = (
-          proper.among (λ a. shared a ≡ text) (all_weaker (d ∷ ds) (λ x p. p.1) all),
-          proper.among (λ a. (e : Contact) × In e × (answer_to h e ≡ a)) (all_weaker (d ∷ ds) (λ x p. (x, p.0, refl)) all),
-        ) in
-        all_of (λ x. Known text) (λ x. known) (d ∷ ds)
-
-    unfoldable pub added : List Mapping
-    added = whole h cs shared In to can
-
-    pub united : AllByRecursion (IsUnited h (h ++ added) shared In to) cs
-    unfolding added
-    united =
-        let text_of : Contact → Text = λ c. shared (answer_to h c) in
-        let IsAnswered : Contact → Type 0 = λ c. text_of c ≢ [] → Answered (h ++ added) (to (text_of c)) c in
-        let IsOther : Contact → Type 0 = λ c. text_of c ≡ [] → Stays h added c in
-        let IsKnown : Contact → Type 0 = λ c. text_of c ≢ [] → Known (text_of c) in
-        all_apply IsAnswered (λ c. IsOther c × IsKnown c) (IsUnited h (h ++ added) shared In to)
-        (λ c answered more. record { grouped = answered; shares = λ some. (more.1 some).0; comes = λ some. (more.1 some).1; other = more.0 })
-        cs (grouped h cs shared In to can)
-        (all_apply IsOther IsKnown (λ c. IsOther c × IsKnown c) (λ c stays known. (stays, known)) cs (others h cs shared In to can)
-        (at_shared h shared (λ text c. Known text) cs (λ text some. known_one text (members text) (proper text some)
-        (all_filtered (λ c. bytes_eq text (text_of c)) In (λ d. In d × (text_of d ≡ text)) (λ c is same. (is, sym (same_bytes text (text_of c) same))) cs can.each_in))))
-
-module _ (h g : List Mapping) (shared : Contact → Text) (In : Contact → Type 0) (to : Text → Contact) where
-  pub same_after : (b c : Contact) → IsUnited h g shared In to b → IsUnited h g shared In to c → shared (answer_to g b) ≡ shared (answer_to g c) → shared (answer_to g c) ≢ [] → answer_to g b ≡ answer_to g c
-  same_after b c u v same some = search rules
-
-  -- each answer was one before, to a contact that was given
-  pub comes_from : (c : Contact) → In c → IsUnited h g shared In to c → (d : Contact) × In d × (answer_to h d ≡ answer_to g c)
-  comes_from c is u = ⊎_elim
-      (λ none. (c, is, sym (u.other none).0))
-      (λ some. let d = u.comes some in (d.0, d.1, d.2 ∙ sym (u.grouped some).0))
-      (empty_or (shared (answer_to h c)))
-
--- ==== contacts are united by the emails of their answers, and then by the names
-
--- ---- by email
-
-abbrev pub Any : Contact → Type 0
-Any c = Unit {0}
-
-module _ (h : List Mapping) (cs : List Contact) (named : AllByRecursion HasNoEmptyName h) (to : Text → Contact) (proper : (text : Text) → text ≢ [] → IsProperIfAny h (sharing email_shared (alike h) cs text) (to text)) where
-  pub can_by_email : CanUnite h cs email_shared Any to
-  can_by_email = search (rules, can_unite, all_of, linked_email, unnamed_contact)
-
-  unfoldable pub added_by_email : List Mapping
-  added_by_email = added h cs email_shared Any to can_by_email proper
-
-  pub united_by_email : AllByRecursion (IsUnited h (h ++ added_by_email) email_shared Any to) cs
-  unfolding added_by_email
-  united_by_email = united h cs email_shared Any to can_by_email proper
-
-module _ (h g : List Mapping) (to : Text → Contact) where
-  abbrev IsUnitedByEmail : Contact → Type 0
-  IsUnitedByEmail c = IsUnited h g email_shared Any to c
-
-  -- git answers as this library does
-  pub git_agrees : (c : Contact) → IsUnitedByEmail c → git_answer_to g c ≡ answer_to g c
-  git_agrees c u = ⊎_elim
-      (λ none. (u.other none).1 ∙ git_without_email h c none ∙ sym (u.other none).0)
-      (λ some. (u.grouped some).1 ∙ sym (u.grouped some).0)
-      (empty_or (email_shared (answer_to h c)))
-
-  -- two answers with the same email are the same
-  pub one_by_email : (b c : Contact) → IsUnitedByEmail b → IsUnitedByEmail c → folded (answer_to g b).email ≡ folded (answer_to g c).email → folded (answer_to g c).email ≢ [] → answer_to g b ≡ answer_to g c
-  one_by_email b c u v same some = same_after h g email_shared Any to b c u v same some
-
--- ---- then by name
+-- ==== by email, and then by name
 
 pub some_email : (a : Contact) → name_shared a ≢ [] → folded a.email ≢ []
 some_email a some e = some (ap (λ b. if b then [] else folded a.name) (equal_bytes a.email [] (folded_empty a.email e)))
 
 some_name : (a : Contact) → name_shared a ≢ [] → a.name ≢ []
-some_name a some e = some (elim (bytes_eq a.email []) as (λ b. (if b then [] else folded a.name) ≡ []) [ true ↦ refl | false ↦ ap folded e ])
+some_name a some e = search rules
 
-module _ (h g : List Mapping) (cs : List Contact) (to : Text → Contact) (first : AllByRecursion (IsUnitedByEmail h g to) cs) (next : Text → Contact) (proper : (text : Text) → text ≢ [] → IsProperIfAny g (sharing name_shared (alike g) cs text) (next text)) where
-  pub can_by_name : CanUnite g cs name_shared (IsUnitedByEmail h g to) next
-  can_by_name =
-      can_unite g cs name_shared (IsUnitedByEmail h g to) next first
-      (λ b c u v linked some. ap name_shared (one_by_email h g to b c u v (linked_email g b c linked) (some_email (answer_to g c) some)))
-      (λ c _ some empty. absurd (some_name (answer_to g c) some empty))
-      proper
+-- answers with one email share their names, if they are the same where there is an email
+name_alike : (a b : Contact) → folded a.email ≡ folded b.email → (folded b.email ≢ [] → a ≡ b) → name_shared a ≡ name_shared b
+name_alike a b emails same = search (rules, empty_or, equal_bytes, folded_empty)
 
-  unfoldable pub added_by_name : List Mapping
-  added_by_name = added g cs name_shared (IsUnitedByEmail h g to) next can_by_name proper
+module _ (h : List Mapping) (ts : List Tally) (all : AllByRecursion HasNoEmptyName h) where
+  abbrev cs : List Contact
+  cs = contacts ts
 
-  pub united_by_name : AllByRecursion (IsUnited g (g ++ added_by_name) name_shared (IsUnitedByEmail h g to) next) cs
-  unfolding added_by_name
-  united_by_name = united g cs name_shared (IsUnitedByEmail h g to) next can_by_name proper
+  abbrev with_emails : List Mapping
+  with_emails = h ++ email_entries (alike h) ts
 
-module _ (h g k : List Mapping) (to next : Text → Contact) where
-  abbrev IsUnitedByName : Contact → Type 0
-  IsUnitedByName c = IsUnited g k name_shared (IsUnitedByEmail h g to) next c
+  abbrev with_names : List Mapping
+  with_names = with_emails ++ name_entries (alike h) ts
 
-  pub git_agrees_then : (c : Contact) → IsUnitedByEmail h g to c → IsUnitedByName c → git_answer_to k c ≡ answer_to k c
-  git_agrees_then c is u = ⊎_elim
-      (λ none. (u.other none).1 ∙ git_agrees h g to c is ∙ sym (u.other none).0)
-      (λ some. (u.grouped some).1 ∙ sym (u.grouped some).0)
-      (empty_or (name_shared (answer_to g c)))
+  by_email : (b c : Contact) → b ∈ cs → c ∈ cs → Linked h b c → email_shared (answer_to h b) ≡ email_shared (answer_to h c)
+  by_email b c i j = linked_email h b c
 
-  -- and two with the same email still are
-  pub one_by_email_then : (b c : Contact) → IsUnitedByEmail h g to b → IsUnitedByEmail h g to c → IsUnitedByName b → IsUnitedByName c → folded (answer_to k b).email ≡ folded (answer_to k c).email → folded (answer_to k c).email ≢ [] → answer_to k b ≡ answer_to k c
-  one_by_email_then b c is_b is_c u v same some = search (rules, comes_from, one_by_email)
+  git_by_email : (c : Contact) → c ∈ cs → email_shared (answer_to h c) ≡ [] → git_answer_to h c ≡ answer_to h c
+  git_by_email c i = git_without_email h c
+
+  pub unites_emails : Unites email_shared h ts with_emails
+  unites_emails = unites h ts email_shared all by_email git_by_email
+
+  emails_named : AllByRecursion HasNoEmptyName with_emails
+  emails_named = added_named h ts email_shared all
+
+  -- answers with one email are the same
+  one_by_email : (b c : Contact) → b ∈ cs → c ∈ cs → email_shared (answer_to with_emails b) ≡ email_shared (answer_to with_emails c) → email_shared (answer_to with_emails c) ≢ [] → answer_to with_emails b ≡ answer_to with_emails c
+  one_by_email = one_by_text h ts email_shared all by_email
+
+  by_name : (b c : Contact) → b ∈ cs → c ∈ cs → Linked with_emails b c → name_shared (answer_to with_emails b) ≡ name_shared (answer_to with_emails c)
+  by_name b c i j linked = name_alike (answer_to with_emails b) (answer_to with_emails c) (linked_email with_emails b c linked) (one_by_email b c i j (linked_email with_emails b c linked))
+
+  git_by_name : (c : Contact) → c ∈ cs → name_shared (answer_to with_emails c) ≡ [] → git_answer_to with_emails c ≡ answer_to with_emails c
+  git_by_name c i none = git_agrees h ts email_shared all by_email git_by_email c i
+
+  pub unites_names : Unites name_shared with_emails ts with_names
+  unites_names = unites with_emails ts name_shared emails_named by_name git_by_name
+
+  abbrev HaveOneEmail : Contact → Contact → Type 0
+  HaveOneEmail b c = email_shared (answer_to with_names b) ≡ email_shared (answer_to with_names c) → email_shared (answer_to with_names c) ≢ [] → answer_to with_names b ≡ answer_to with_names c
+
+  -- no two answers share an email and differ then, either
+  pub emails_stay : AllByRecursion (λ b. AllByRecursion (HaveOneEmail b) cs) cs
+  emails_stay = each (λ b. AllByRecursion (HaveOneEmail b) cs) cs (λ b i. each (HaveOneEmail b) cs (λ c j same some.
+      let d = comes with_emails ts name_shared emails_named by_name b i in
+      let e = comes with_emails ts name_shared emails_named by_name c j in
+      sym d.2 ∙ one_by_email d.0 e.0 d.1 e.1 (ap email_shared d.2 ∙ same ∙ sym (ap email_shared e.2)) (λ none. some (sym (ap email_shared e.2) ∙ none)) ∙ e.2))
+
+-- ==== suggested entries can be written, if the mappings and the contacts can
+
+-- a line can hold it, and it maps something
+abbrev pub IsGood : Mapping → Type 0
+IsGood e = IsWritable e × (is_accepted e ≡ true)
+
+-- ---- answers
+
+abbrev AreWritable : Fields → Type 0
+AreWritable f = IfSome f.name IsWritableName × IfSome f.email IsWritableEmail
+
+fields_writable : (h : List Mapping) (c : Contact) → AllByRecursion IsWritable h → AreWritable (fields h c)
+fields_writable h c all =
+    fields_all (λ o. IfSome o IsWritableName) (λ o. IfSome o IsWritableEmail) tt tt h c (all_weaker h (λ x w. (w.names.0, w.emails.0)) all)
+
+spelled_writable : (h : List Mapping) (c : Contact) → AllByRecursion IsWritable h → IfSome (spelled h c) IsWritableEmail
+spelled_writable h c all = by (of_email h (folded c.email))
+    (all_filtered (λ e. eq_by_cmp text_cmp (folded c.email) (folded e.old_email)) IsWritable IsWritable (λ e p _. p) (accepted h) (accepted_all IsWritable h all))
+  where
+    by : (l : List Mapping) → AllByRecursion IsWritable l → IfSome (option_map (λ e. e.old_email) (first l)) IsWritableEmail
+    by [] all = tt
+    by (x ∷ xs) all = all.0.emails.1
+
+pub answer_writable : (h : List Mapping) (c : Contact) → AllByRecursion IsWritable h → IsWritableContact c → IsWritableContact (answer_to h c)
+answer_writable h c all w =
+    let f = fields_writable h c all in
+    subst IsWritableContact (sym (answer_is h c))
+    (record { name = names (fields h c).name f.0; email = emails (fields h c).email (spelled h c) f.1 (spelled_writable h c all) })
+  where
+    names : (o : Option Text) → IfSome o IsWritableName → unwrap_or o c.name ≢ [] → IsWritableName (unwrap_or o c.name)
+    names None p = w.name
+    names (Some n) p = λ _. p
+
+    emails : (o s : Option Text) → IfSome o IsWritableEmail → IfSome s IsWritableEmail → IsWritableEmail (unwrap_or o (unwrap_or s c.email))
+    emails None None p q = w.email
+    emails None (Some t) p q = q
+    emails (Some t) s p q = p
+
+pub git_writable : (h : List Mapping) (c : Contact) → AllByRecursion IsWritable h → IsWritableContact c → IsWritableContact (git_answer_to h c)
+git_writable h c all w =
+    let f = fields_writable h c all in
+    subst IsWritableContact (sym (git_is h c)) (record { name = names (fields h c).name f.0; email = emails (fields h c).email f.1 })
+  where
+    names : (o : Option Text) → IfSome o IsWritableName → unwrap_or o c.name ≢ [] → IsWritableName (unwrap_or o c.name)
+    names None p = w.name
+    names (Some n) p = λ _. p
+
+    emails : (o : Option Text) → IfSome o IsWritableEmail → IsWritableEmail (unwrap_or o c.email)
+    emails None p = w.email
+    emails (Some t) p = p
+
+-- a contact without a name has no entry of its own
+pub unnamed_own : (h : List Mapping) (c : Contact) → AllByRecursion IsWritable h → c.name ≡ [] → own_fields h c ≡ None
+unnamed_own h c all empty = search (rules, filter_none, all_weaker, accepted_all, folded_empty)
+
+-- ---- the forms
+
+-- what holds of a contact that can be suggested
+pub record IsSuggestible (to : Contact) : Type 0 where
+  pub writable : IsWritableContact to
+  pub some : to.email ≢ []
+
+long_good : (to c : Contact) → IsSuggestible to → IsWritableContact c → IsGood (long_form to c)
+long_good to c s w = search rules
+
+short_good : (to : Contact) → IsSuggestible to → is_some (name_unless_empty to) ≡ true → IsGood (short_form to)
+short_good to s named = search rules
+
+named_good : (to c : Contact) → IsSuggestible to → IsWritableContact c → c.name ≢ [] → IsGood (named_form to c)
+named_good to c s w some = search rules
+
+-- ---- the entries
+
+module _ (h : List Mapping) (writable : AllByRecursion IsWritable h) where
+  abbrev named : AllByRecursion HasNoEmptyName h
+  named = writable_named h writable
+
+  entries_good : (to : Contact) → IsSuggestible to → (cs : List Contact) → AllByRecursion (IsWanting h to) cs → AllByRecursion IsWritableContact cs → AllByRecursion IsGood (entries_to (alike h) to cs)
+  entries_good to s cs wanting each =
+      let emails = distinct (map (λ c. folded c.email) cs) in
+      all_joined IsGood (λ email. entries_for_email (alike h) to (of_old_email email cs)) emails
+      (all_of (λ email. AllByRecursion IsGood (entries_for_email (alike h) to (of_old_email email cs))) (λ email.
+      let ones = of_old_email email cs in
+      let good : AllByRecursion IsWritableContact ones = all_filtered (λ c. bytes_eq email (folded c.email)) IsWritableContact IsWritableContact (λ c w _. w) cs each in
+      email_needed h named to email ones (of_email_all cs (IsWanting h to) email wanting) IsGood
+      (all_weaker ones (λ c w. (λ some _. short_good to s some, long_good to c s w)) good)
+      (all_weaker ones (λ c w owned. named_good to c s w (λ empty. owned (unnamed_own h c writable empty))) good)) emails)
+
+  -- ---- all suggested entries
+
+  group_good : (g : List Tally) → AllByRecursion (IsWanting h (proper_answer (alike h) g)) (contacts g) → Each IsWritableContact g → AllByRecursion (λ c. (answer_to h c).email ≢ []) (contacts g)
+      → AllByRecursion IsGood (group_entries (alike h) g)
+  group_good [] wanting each some = tt
+  group_good (t ∷ ts) wanting each some =
+      let d = proper_comes h (t ∷ ts) t.contact (inl refl) in
+      let writables = all_mapped (λ u. u.contact) IsWritableContact (t ∷ ts) each in
+      entries_good (proper_answer (alike h) (t ∷ ts)) (record {
+        writable = subst IsWritableContact d.2 (answer_writable h d.0 writable (at IsWritableContact (contacts (t ∷ ts)) writables d.0 d.1));
+        some = subst (λ a. a.email ≢ []) d.2 (at (λ c. (answer_to h c).email ≢ []) (contacts (t ∷ ts)) some d.0 d.1);
+      }) (contacts (t ∷ ts)) wanting writables
+
+  module _ (ts : List Tally) (shared : Contact → Text) (has_email : (a : Contact) → shared a ≢ [] → a.email ≢ []) (each_writable : Each IsWritableContact ts) where
+    pub sharing_writable : (t : Text) → Each IsWritableContact (sharers shared (alike h) ts t)
+    sharing_writable t = all_filtered (λ u. bytes_eq t (shared (answer_to h u.contact))) (λ u. IsWritableContact u.contact) (λ u. IsWritableContact u.contact) (λ u w _. w) ts each_writable
+
+    pub sharing_good : (t : Text) → t ≢ [] → AllByRecursion IsGood (group_entries (alike h) (sharers shared (alike h) ts t))
+    sharing_good t some = group_good (sharers shared (alike h) ts t) (wanting h ts shared named t) (sharing_writable t)
+        (each (λ c. (answer_to h c).email ≢ []) (group h ts shared named t) (λ c i. has_email (answer_to h c) (λ e. some (sym (from_group h ts shared named t c i).1 ∙ e))))
+
+-- by emails, and so by names after them
+email_some : (a : Contact) → email_shared a ≢ [] → a.email ≢ []
+email_some a some e = some (ap folded e)
+
+more_writable : (h : List Mapping) (ts : List Tally) → AllByRecursion IsWritable h → Each IsWritableContact ts → AllByRecursion IsWritable (h ++ email_entries (alike h) ts)
+more_writable h ts writable each = all_append IsWritable h (email_entries (alike h) ts) writable (all_joined IsWritable (group_entries (alike h)) (groups email_shared (alike h) ts)
+    (each_group email_shared h ts (λ g. AllByRecursion IsWritable (group_entries (alike h) g)) (λ t some. all_weaker (group_entries (alike h) (sharers email_shared (alike h) ts t)) (λ e good. good.0)
+    (sharing_good h writable ts email_shared email_some each t some))))
+
+-- ==== the text of suggestions is read as their entries
+
+-- a space at its start changes nothing
+with_space : (reads : ℕ → Text → Reading) (n : ℕ) (s : Text) → is_comment s ≡ false → reading_by reads n s ≡ reading_by reads n (32 ∷ s)
+with_space reads n s out = ap (λ b. if b then None else unless_blank reads n (trim s)) out ∙ ap (unless_blank reads n) (sym (trim-blank_start s))
+
+as_line : (reads : ℕ → Text → Reading) (n : ℕ) (e : Mapping) → is_accepted e ≡ true → reading_by reads n (entry_line e) ≡ reading_by reads n (32 ∷ body e)
+as_line reads n e accepted = search (rules, with_space)
+
+pub entry_read : (n : ℕ) (e : Mapping) → IsWritable e → is_accepted e ≡ true → (reading n (entry_line e) ≡ Some (Ok e)) × (strict_reading n (entry_line e) ≡ Some (Ok e))
+entry_read n e w accepted = (as_line line_reading n e accepted ∙ reading-canonical_line n e w accepted, as_line strict_line_reading n e accepted ∙ strict_reading-canonical_line n e w accepted)
+
+-- ---- texts of whole lines
+
+-- the mappings of a text whose first line has this number
+abbrev said : ℕ → Text → List Mapping
+said n s = mappings_in (readings_from reading n (pieces s))
+
+-- a text says these entries, whatever comes after it
+abbrev Says : Text → List Mapping → Type 0
+Says s es = (n : ℕ) (rest : Text) → (m : ℕ) × (said n (s ++ rest) ≡ es ++ said m rest)
+
+nothing_said : Says [] []
+nothing_said n rest = (n, refl)
+
+both_said : (s t : Text) (es fs : List Mapping) → Says s es → Says t fs → Says (s ++ t) (es ++ fs)
+both_said s t es fs first second n rest =
+    let a = first n (t ++ rest) in
+    let b = second a.0 rest in
+    (b.0, ap (said n) (append_assoc s t rest) ∙ a.1 ∙ ap (λ l. es ++ l) b.1 ∙ sym (append_assoc es fs (said b.0 rest)))
+
+all_said : {X : Type 0} (text : X → Text) (es : X → List Mapping) (xs : List X) → AllByRecursion (λ x. Says (text x) (es x)) xs → Says (flat_map text xs) (flat_map es xs)
+all_said text es [] all = nothing_said
+all_said text es (x ∷ xs) all = both_said (text x) (flat_map text xs) (es x) (flat_map es xs) all.0 (all_said text es xs all.1)
+
+-- what a line says
+abbrev of_reading : Option Reading → List Mapping
+of_reading None = []
+of_reading (Some r) = option_to_list (result_ok r)
+
+with_reading : (o : Option Reading) (rs : List Reading) → mappings_in (option_to_list o ++ rs) ≡ of_reading o ++ mappings_in rs
+unfolding mappings_in
+with_reading None rs = refl
+with_reading (Some r) rs = refl
+
+line_said : (l : Text) (es : List Mapping) → HoldsNo 10 l → ((n : ℕ) → of_reading (reading n l) ≡ es) → Says (l ++ 10 ∷ []) es
+unfolding readings_from
+line_said l es one says n rest = (
+  n + 1,
+  ap (said n) (append_assoc l (10 ∷ []) rest)
+      ∙ ap (λ ps. mappings_in (readings_from reading n ps)) (pieces-line l rest one)
+      ∙ with_reading (reading n l) (readings_from reading (n + 1) (pieces rest))
+      ∙ ap (λ fs. fs ++ said (n + 1) rest) (says n),
+)
+
+pub says_whole : (s : Text) (es : List Mapping) → Says s es → mappings_of s ≡ es
+unfolding pieces readings_from mappings_in
+says_whole s es says =
+    let a = says 1 [] in
+    ap (said 1) (sym (append-nil s)) ∙ a.1 ∙ append-nil es
+
+-- ---- what is in a line
+
+digits_line : (k n : ℕ) (acc : Text) → HoldsNo 10 acc → HoldsNo 10 (digits_onto k 10 false n acc)
+digits_line zero n acc one = one
+digits_line (suc k) n acc one = search (rules, digits_line k)
+
+decimal_line : (n : ℕ) → HoldsNo 10 (decimal n)
+unfolding digits
+decimal_line n = digits_line 64 n [] tt
+
+contact_holds_no_feed : (c : Contact) → IsWritableContact c → HoldsNo 10 (contact_line c.name c.email)
+contact_holds_no_feed c w = search (rules, all_append)
+
+git_line : (is_gits : Bool) → HoldsNo 10 (by_git is_gits)
+git_line false = tt
+git_line true = (omega arith, (omega arith, (omega arith, (omega arith, (omega arith, (omega arith, (omega arith, tt)))))))
+
+count_said : (is_gits : Bool) (t : Tally) → IsWritableContact t.contact → Says (count_line is_gits t.seen.count t.contact ++ 10 ∷ []) []
+count_said is_gits t w = line_said (count_line is_gits t.seen.count t.contact) []
+    (all_append (λ x. x ≢ 10) (codes "# " ++ decimal t.seen.count ++ 32 ∷ contact_line t.contact.name t.contact.email) (by_git is_gits)
+    (all_append (λ x. x ≢ 10) (codes "# " ++ decimal t.seen.count) (32 ∷ contact_line t.contact.name t.contact.email)
+    (all_append (λ x. x ≢ 10) (codes "# ") (decimal t.seen.count) (omega arith, (omega arith, tt)) (decimal_line t.seen.count))
+    (omega arith, contact_holds_no_feed t.contact w)) (git_line is_gits)) (λ n. refl)
+
+body_line : (e : Mapping) → IsWritable e → HoldsNo 10 (entry_line e)
+body_line e w = search (rules, one_line)
+
+abbrev unless_marked : Bool → List Mapping → List Mapping
+unless_marked b es = if b then [] else es
+
+entry_said : (b : Bool) (e : Mapping) → IsGood e → Says (mark b ++ entry_line e ++ 10 ∷ []) (unless_marked b (e ∷ []))
+entry_said true e g = line_said (mark true ++ entry_line e) [] (omega arith, (omega arith, body_line e g.0)) (λ n. refl)
+entry_said false e g = line_said (entry_line e) (e ∷ []) (body_line e g.0) (λ n. ap of_reading (entry_read n e g.0 g.1).0)
+
+blank_said : Says (10 ∷ []) []
+blank_said = line_said [] [] tt (λ n. ap (λ t. of_reading (unless_blank line_reading n t)) trim-nil)
+
+-- ---- lists of lines
+
+counts_said : (is_gits : Bool) (ts : List Tally) → AllByRecursion (λ t. IsWritableContact t.contact) ts → Says (count_lines is_gits ts) []
+counts_said is_gits ts all = subst (Says (count_lines is_gits ts)) (no_part (λ _. []) ts (all_of _ (λ _. refl) ts))
+    (all_said (λ t. count_line is_gits t.seen.count t.contact ++ 10 ∷ []) (λ t. []) ts (all_weaker ts (λ t w. count_said is_gits t w) all))
+
+single_joined : (b : Bool) (es : List Mapping) → flat_map (λ e. unless_marked b (e ∷ [])) es ≡ unless_marked b es
+single_joined b [] = search rules
+single_joined b (e ∷ es) = search (rules, single_joined b es)
+
+entries_said : (b : Bool) (es : List Mapping) → AllByRecursion IsGood es → Says (entry_lines b es) (unless_marked b es)
+entries_said b es all = subst (Says (entry_lines b es)) (single_joined b es)
+    (all_said (λ e. mark b ++ entry_line e ++ 10 ∷ []) (λ e. unless_marked b (e ∷ [])) es (all_weaker es (λ e g. entry_said b e g) all))
+
+-- ---- what is written can be written
+
+each_ranked : (P : Contact → Type 0) (n : ℕ) (ts : List Tally) → Each P ts → Each P (ranked n ts)
+each_ranked P n [] all = tt
+each_ranked P n (t ∷ ts) all = (all.0, each_ranked P (n + 1) ts all.1)
+
+module _ (h : List Mapping) (writable : AllByRecursion IsWritable h) (g : List Tally) (each : Each IsWritableContact g) where
+  each_answer : Each IsWritableContact (counted (alike h) g)
+  each_answer = each_counted IsWritableContact h g (all_mapped (λ t. t.contact) (λ c. IsWritableContact (answer_to h c)) g (all_weaker g (λ t w. answer_writable h t.contact writable w) each))
+
+  -- what is counted, or ranked, stays as it is
+  all_counted : (ts : List Tally) → Each IsWritableContact ts → Each IsWritableContact (by_frequency (tallied ts))
+  all_counted ts all = all_by_frequency (λ t. IsWritableContact t.contact) (tallied ts) (each_tallied IsWritableContact ts all)
+
+  each_git_answer : Each IsWritableContact (git_counted (alike h) g)
+  each_git_answer =
+      let differs = λ (t : Tally). not (same_contact (git_answer_to h t.contact) (answer_to h t.contact)) in
+      let others = other_git_answers (alike h) (by_frequency (tallied g)) in
+      all_counted (ranked 1 others) (each_ranked IsWritableContact 1 others
+      (all_mapped (git_answered (alike h)) (λ t. IsWritableContact t.contact) (filter differs (by_frequency (tallied g)))
+      (all_filtered differs (λ t. IsWritableContact t.contact) (λ t. IsWritableContact (git_answer_to h t.contact)) (λ t w _. git_writable h t.contact writable w) (by_frequency (tallied g)) (all_counted g each))))
+
+  group_said : (b : Bool) → AllByRecursion IsGood (group_entries (alike h) g) → Says (group_text (alike h) b g) (unless_marked b (group_entries (alike h) g))
+  group_said b good =
+      let es = unless_marked b (group_entries (alike h) g) in
+      let a = count_lines false (counted (alike h) g) in
+      let d = count_lines true (git_counted (alike h) g) in
+      let lines = entry_lines b (group_entries (alike h) g) in
+      subst (Says (group_text (alike h) b g)) (append-nil es)
+      (both_said (a ++ d ++ lines) (10 ∷ []) es [] (both_said (a ++ d) lines [] es (both_said a d [] [] (counts_said false (counted (alike h) g) each_answer) (counts_said true (git_counted (alike h) g) each_git_answer)) (entries_said b (group_entries (alike h) g) good)) blank_said)
+
+-- ---- the whole text
+
+marked_joined : {X : Type 0} (b : Bool) (es : X → List Mapping) (xs : List X) → flat_map (λ x. unless_marked b (es x)) xs ≡ unless_marked b (flat_map es xs)
+marked_joined true es xs = no_part (λ _. []) xs (all_of _ (λ _. refl) xs)
+marked_joined false es xs = refl
+
+module _ (ts : List Tally) (each : Each IsWritableContact ts) where
+  groups_said : (h : List Mapping) → AllByRecursion IsWritable h → (shared : Contact → Text) → ((a : Contact) → shared a ≢ [] → a.email ≢ []) → (b : Bool)
+      → Says (flat_map (group_text (alike h) b) (groups shared (alike h) ts)) (unless_marked b (all_entries shared (alike h) ts))
+  groups_said h writable shared has_email b =
+      let gs = groups shared (alike h) ts in
+      subst (Says (flat_map (group_text (alike h) b) gs)) (marked_joined b (group_entries (alike h)) gs)
+      (all_said (group_text (alike h) b) (λ g. unless_marked b (group_entries (alike h) g)) gs
+      (each_group shared h ts (λ g. Says (group_text (alike h) b g) (unless_marked b (group_entries (alike h) g)))
+      (λ t some. group_said h writable (sharers shared (alike h) ts t) (sharing_writable h writable ts shared has_email each t) b (sharing_good h writable ts shared has_email each t some))))
+
+  text_said : (h : List Mapping) → AllByRecursion IsWritable h → (b : Bool) → mappings_of (text_by b (alike h) ts) ≡ email_entries (alike h) ts ++ unless_marked b (name_entries (alike h) ts)
+  text_said h writable b =
+      let more = h ++ email_entries (alike h) ts in
+      let first = flat_map (group_text (alike h) false) (groups email_shared (alike h) ts) in
+      let second = flat_map (group_text (alike more) b) (groups name_shared (alike more) ts) in
+      says_whole (first ++ second) (email_entries (alike h) ts ++ unless_marked b (name_entries (alike h) ts))
+      (both_said first second (email_entries (alike h) ts) (unless_marked b (name_entries (alike h) ts)) (groups_said h writable email_shared email_some false)
+      (groups_said more (more_writable h ts writable each) name_shared (λ a some e. some_email a some (ap folded e)) b))
+
+pub suggested_said : (h : List Mapping) (ts : List Tally) → AllByRecursion IsWritable h → Each IsWritableContact ts → mappings_of (suggested_text (alike h) ts) ≡ email_entries (alike h) ts
+suggested_said h ts writable each = text_said ts each h writable true ∙ append-nil (email_entries (alike h) ts)
+
+pub reviewed_said : (h : List Mapping) (ts : List Tally) → AllByRecursion IsWritable h → Each IsWritableContact ts → mappings_of (reviewed_text (alike h) ts) ≡ email_entries (alike h) ts ++ name_entries (alike h) ts
+reviewed_said h ts writable each = text_said ts each h writable false
+
+-- ---- contacts of lines can be written
+
+contact_writable : (p : ParsedContact) → ContactFits p → (seen : Occurrences) → Each IsWritableContact (tally_on (contact_on p) seen)
+contact_writable p fits seen = search rules
+
+pub lines_writable : (n : ℕ) (ls : List Text) → AllByRecursion (HoldsNo 10) ls → Each IsWritableContact (contacts_from n ls)
+lines_writable n [] all = tt
+lines_writable n (l ∷ ls) all = search (rules, all_append, contact_writable, contact_fits, HoldsNo-trim, lines_writable (n + 1) ls)

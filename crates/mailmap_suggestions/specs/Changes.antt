@@ -1,37 +1,27 @@
 -- Contacts with one old email, and what entries for it change when they are appended, as the code has them.
-use Rattle.std.specs.Prelude.{◌≡◌, true, if◌then◌else◌, Option, None, Some, List, map, option_map}
-use Rattle.std.specs.Borrow.{Bor}
+use Rattle.std.specs.Prelude.{◌≡◌, ◌&&◌, Bool, true, if◌then◌else◌, is_some, Option, None, Some, List, map, option_map, unwrap_or}
 use Rattle.std.specs.BTreeSet.{contains}
-use Rattle.std.specs.Global.{Vec}
-use Rattle.std.specs.List.{All}
+use Rattle.std.specs.List.{AllByRecursion}
 use Rattle.std.specs.Option.{option_copied, option_to_list}
 use Rattle.mailmap_entries.specs.Entries.{Mapping, mapping_of}
 use Rattle.mailmap_entries.specs.Folding.{Text, folded}
 use Rattle.mailmap_entries.specs.Semantics.{Fields, given_fields, is_accepted, key, last_fields, spelling}
 use Rattle.mailmap_entries.specs.declared.entry.Entry.{Entry}
-use Rattle.mailmap_contacts.specs.Answers.{folded_cmp}
-use Rattle.mailmap_contacts.specs.Contacts.{Contact}
+use Rattle.mailmap_contacts.specs.Answers.{folded_cmp, tally_of}
+use Rattle.mailmap_contacts.specs.Contacts.{Contact, answer_to, same_contact}
 use Rattle.mailmap_contacts.specs.Folded.{folded_text}
+use Rattle.contact_counter.specs.declared.tallies.Tally.{Tally as TheTally}
 use Rattle.mailmap_contacts.specs.declared.folded.Folded.{Folded}
-use Rattle.mailmap_suggestions.specs.Answered.{IsRightFor, contact_behind, answered_contact}
-use Rattle.mailmap_suggestions.specs.Forms.{Histories, distinct, name_unless_empty, of_old_email}
-use Rattle.mailmap_suggestions.specs.declared.answered.Answered.{Answered}
+use Rattle.mailmap_suggestions.specs.Forms.{Histories, git_answer_to, name_unless_empty, own_key, replaced}
+use Rattle.mailmap_suggestions.specs.GroupEntries.{contacts}
 use Rattle.mailmap_suggestions.specs.declared.changes.Changes.{Changes}
 
--- ---- contacts
+abbrev pub contacts_of : List TheTally → List Contact
+contacts_of ts = contacts (map tally_of ts)
 
-abbrev pub email_in : Answered → Text
-email_in a = folded (answered_contact a).email
-
--- what it has is so for these entries, and it has this old email
-abbrev pub IsAnsweredFor : Histories → Text → Bor Answered → Type 0
-IsAnsweredFor h email a = IsRightFor h a.now × (email_in a.now ≡ email)
-
--- each part has the contacts with one old email
-pub record AreParts (h : Histories) (cs : List Contact) (parts : List (Vec (Bor Answered))) : Type 0 where
-  pub answered : All (λ part. All (λ a. IsRightFor h a.now) part.items) parts
-  pub emails : map (λ part. map contact_behind part.items) parts
-      ≡ map (λ email. of_old_email email cs) (distinct (map (λ c. folded c.email) cs))
+-- these contacts have this old email
+abbrev pub HaveEmail : Text → List Contact → Type 0
+HaveEmail email cs = AllByRecursion (λ c. folded c.email ≡ email) cs
 
 -- ---- entries
 
@@ -57,3 +47,20 @@ pub record AreChangesBy (to : Contact) (email : Text) (added : List Mapping) (a 
   pub owned : (key : Folded) → last_fields added (email, Some (folded_text key))
       ≡ (if contains folded_cmp a.names key then Some (fields_to to) else None)
   pub spelled : spelling added email ≡ option_copied a.spelling
+
+-- ---- answers after them
+
+-- the answer to a contact, by that before, whether the contact had an entry of its own, and whether its email keeps the
+-- spelling of that answer
+abbrev pub after : Changes → Contact → TheTally → Contact → Bool → Bool → Contact
+after a to t before has_own is_spelled =
+    let spelling = if is_spelled then None else option_copied a.spelling in
+    if contains folded_cmp a.names (record { text = t.name }) then replaced (fields_to to) (tally_of t).contact
+    else (if has_own then before else replaced (given_in a) (record { name = before.name; email = unwrap_or spelling before.email }))
+
+-- whether this library and git both answer a contact by `to` then
+abbrev pub are_enough : Changes → Histories → Contact → TheTally → Bool
+are_enough a h to t =
+    let c = (tally_of t).contact in
+    same_contact (after a to t (answer_to h.ours c) (is_some (last_fields h.ours (own_key c))) (is_some (spelling h.ours (folded c.email)))) to
+    && same_contact (after a to t (git_answer_to h.gits c) (is_some (last_fields h.gits (own_key c))) true) to

@@ -1,14 +1,28 @@
--- The entries by which contacts get one answer.
+-- What git answers to contacts, and the entries by which they get one answer.
 use Rattle.std.specs.Prelude.{Bool, ◌&&◌, ◌||◌, ◌++◌, not, if◌then◌else◌, is_some, Option, Some, None, List, [], ◌∷◌}
-use Rattle.std.specs.Prelude.{map, filter, bytes_eq}
+use Rattle.std.specs.Prelude.{map, filter, bytes_eq, unwrap_or}
 use Rattle.std.specs.List.{flat_map, list_all}
 use Rattle.mailmap_entries.specs.Entries.{Mapping, mapping}
 use Rattle.mailmap_entries.specs.Folding.{Text, folded}
-use Rattle.mailmap_entries.specs.Semantics.{last_fields}
+use Rattle.mailmap_entries.specs.Semantics.{Fields, Key, last_fields, no_fields}
 use Rattle.mailmap_contacts.specs.Contacts.{Contact, answer_to, same_contact}
-use Rattle.mailmap_suggestions.specs.Contacts.{git_answer_to, own_key}
+use Rattle.mailmap_redundancy.specs.Origins.{git_answer_from}
 
--- the entries of mailmaps as this library reads them, and as git does
+-- the contact with its fields overridden
+abbrev pub replaced : Fields → Contact → Contact
+replaced f c = record { name = unwrap_or f.name c.name; email = unwrap_or f.email c.email }
+
+-- git's answer
+abbrev pub git_answer_to : List Mapping → Contact → Contact
+git_answer_to h c = replaced (unwrap_or (git_answer_from h c.name c.email) no_fields) c
+
+-- the key of entries that have the contact's name and email as their old ones
+abbrev pub own_key : Contact → Key
+own_key c = (folded c.email, Some (folded c.name))
+
+-- ---- the entries of mailmaps
+
+-- as this library reads them, and as git does
 pub record Histories : Type 0 where
   pub ours : List Mapping
   pub gits : List Mapping
@@ -38,7 +52,7 @@ name_unless_empty to = if bytes_eq to.name [] then None else Some to.name
 
 -- the forms `Name <email>`, `Name <email> <old email>` and `Name <email> Old Name <old email>`
 abbrev pub short_form : Contact → Mapping
-short_form to = mapping (name_unless_empty to) None None to.email
+short_form to = mapping (Some to.name) None None to.email
 
 abbrev pub long_form : Contact → Contact → Mapping
 long_form to c = mapping (name_unless_empty to) (Some to.email) None c.email
@@ -49,23 +63,24 @@ named_form to c = mapping (name_unless_empty to) (Some to.email) (Some c.name) c
 abbrev pub are_answered : Histories → Contact → List Contact → Bool
 are_answered h to cs = list_all (is_answered h to) cs
 
--- whether the short form is enough for these contacts with the first one's email
+-- whether there is a name for the short form, and it is for the contact's email
+abbrev pub fits : Contact → Contact → Bool
+fits to c = is_some (name_unless_empty to) && bytes_eq (folded to.email) (folded c.email)
+
+-- whether it is enough for these contacts with one email
 abbrev pub is_short_enough : Histories → Contact → Contact → List Contact → Bool
-is_short_enough h to c cs = is_some (name_unless_empty to) && bytes_eq (folded to.email) (folded c.email)
-    && are_answered (plus h (short_form to ∷ [])) to (c ∷ cs)
+is_short_enough h to c cs = fits to c && are_answered (plus h (short_form to ∷ [])) to (c ∷ cs)
 
 -- for contacts without entries of their own: none, or the entry that makes all their answers `to`
 abbrev pub plain_entries : Histories → Contact → List Contact → List Mapping
 plain_entries h to [] = []
-plain_entries h to (c ∷ cs) =
-    if are_answered h to (c ∷ cs) then []
+plain_entries h to (c ∷ cs) = if are_answered h to (c ∷ cs) then []
     else (if is_short_enough h to c cs then short_form to else long_form to c) ∷ []
 
 -- an entry with the old name for each contact that isn't answered by `to` yet
 abbrev pub named_entries : Histories → Contact → List Contact → List Mapping
 named_entries h to [] = []
-named_entries h to (c ∷ cs) =
-    if is_answered h to c then named_entries h to cs
+named_entries h to (c ∷ cs) = if is_answered h to c then named_entries h to cs
     else named_form to c ∷ named_entries (plus h (named_form to c ∷ [])) to cs
 
 -- the entries that make `to` the answers of these contacts with one old email

@@ -1,21 +1,36 @@
 -- The entries that mailmaps lack for contacts: those by which no two answers share an email and differ, and those by
 -- which then no two share a name.
-use Rattle.std.specs.Prelude.{◌≡◌, ◌≢◌, ◌&&◌, Bool, false, not, Option, None, Some, List, [], map, filter}
-use Rattle.std.specs.Prelude.{bytes_eq}
+use Rattle.std.specs.Prelude.{◌≡◌, ◌≢◌, ◌&&◌, Bool, false, true, not, if◌then◌else◌, List, [], ◌∷◌, map}
+use Rattle.std.specs.Prelude.{Option, None, Some, bytes_eq, filter}
 use Rattle.std.specs.List.{AllByRecursion, flat_map}
-use Rattle.mailmap_contacts.specs.Contacts.{Contact, Tally, answer_to, answered, tallied}
-use Rattle.mailmap_contacts.specs.Proper.{proper}
+use Rattle.mailmap_contacts.specs.Contacts.{Contact, Tally, answer_to}
 use Rattle.mailmap_entries.specs.Entries.{Mapping}
-use Rattle.mailmap_entries.specs.Folding.{Text}
+use Rattle.mailmap_entries.specs.Folding.{Text, folded}
 use Rattle.mailmap_grammar.specs.CanonicalText.{IsWritableEmail, IsWritableName}
-use Rattle.mailmap_suggestions.specs.Contacts.{git_answer_to}
-use Rattle.mailmap_suggestions.specs.Groups.{are_alike, email_shared, name_shared, shared_texts}
-use Rattle.mailmap_suggestions.specs.Forms.{Histories, alike, entries_to, plus}
+use Rattle.mailmap_suggestions.specs.Counted.{counted, first_named}
+use Rattle.mailmap_suggestions.specs.Forms.{Histories, alike, are_answered, distinct, entries_to, git_answer_to, plus}
 
 abbrev pub contacts : List Tally → List Contact
 contacts ts = map (λ t. t.contact) ts
 
 -- ---- groups
+
+-- what the answers of a group share, ASCII case aside; an answer with an empty text there is in no group
+abbrev pub email_shared : Contact → Text
+email_shared a = folded a.email
+
+-- an answer without an email is nobody's
+abbrev pub name_shared : Contact → Text
+name_shared a = if bytes_eq a.email [] then [] else folded a.name
+
+-- whether this library and git answer all of them alike
+abbrev pub are_alike : Histories → List Contact → Bool
+are_alike h [] = true
+are_alike h (c ∷ cs) = are_answered h (answer_to h.ours c) (c ∷ cs)
+
+-- the texts that answers share, in the order of first occurrence
+abbrev pub shared_texts : (Contact → Text) → Histories → List Contact → List Text
+shared_texts shared h cs = distinct (filter (λ text. not (bytes_eq text [])) (map (λ c. shared (answer_to h.ours c)) cs))
 
 -- those whose answers share a text
 abbrev pub sharers : (Contact → Text) → Histories → List Tally → Text → List Tally
@@ -41,8 +56,9 @@ abbrev pub contact_or_nobody : Option Tally → Contact
 contact_or_nobody None = nobody
 contact_or_nobody (Some t) = t.contact
 
+-- of those with a name, or of all if none has one, the one that comes most often; of several of these the first
 abbrev pub proper_answer : Histories → List Tally → Contact
-proper_answer h g = contact_or_nobody (proper (tallied (map (answered h.ours) g)))
+proper_answer h g = contact_or_nobody (first_named (counted h g))
 
 -- ---- entries
 

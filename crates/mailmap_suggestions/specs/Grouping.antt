@@ -1,72 +1,53 @@
--- Groups of contacts by a text, as the code has them.
-use Rattle.std.specs.Prelude.{◌≡◌, ◌≢◌, ◌&&◌, ℕ, suc, Bool, true, if◌then◌else◌, Option, Some, None, List, [], ◌∷◌}
-use Rattle.std.specs.Prelude.{map, filter, bytes_eq}
+-- Contacts that are put into groups, as the code has them.
+use Rattle.std.specs.Prelude.{◌≡◌, Bool, if◌then◌else◌, List, None, Some, map, filter, bytes_eq, option_map}
 use Rattle.std.specs.BTreeMap.{BTreeMap, get}
-use Rattle.std.specs.Borrow.{Bor}
 use Rattle.std.specs.Global.{Vec}
-use Rattle.std.specs.List.{AllByRecursion, list_all}
-use Rattle.std.specs.Option.{option_map}
-use Rattle.mailmap_entries.specs.Folding.{Text, folded}
+use Rattle.std.specs.List.{list_any}
+use Rattle.mailmap_entries.specs.Folding.{Text}
 use Rattle.mailmap_contacts.specs.Answers.{folded_cmp, tally_of}
-use Rattle.mailmap_contacts.specs.Contacts.{Contact, same_contact}
+use Rattle.mailmap_contacts.specs.Contacts.{Contact, Tally, answer_to}
 use Rattle.mailmap_contacts.specs.Folded.{folded_text}
+use Rattle.contact_counter.specs.declared.tallies.Tally.{Tally as TheTally}
 use Rattle.mailmap_contacts.specs.declared.folded.Folded.{Folded}
 use Rattle.mailmap_contacts.specs.declared.proper.Shared.{Shared}
 use Rattle.mailmap_contacts.specs.declared.proper.Shared.TheVariants.{Email, Name}
-use Rattle.mailmap_suggestions.specs.Answered.{answered_contact}
-use Rattle.mailmap_suggestions.specs.Groups.{email_shared, name_shared}
-use Rattle.mailmap_suggestions.specs.Forms.{distinct}
-use Rattle.mailmap_suggestions.specs.declared.answered.Answered.{Answered}
-use Rattle.mailmap_suggestions.specs.declared.groups.Criterion.{Criterion}
-use Rattle.mailmap_suggestions.specs.declared.groups.Criterion.TheVariants.{OldEmail, Answer}
-
-abbrev pub behind : List (Bor Answered) → List Answered
-behind cs = map (λ c. c.now) cs
-
--- ---- what contacts share
+use Rattle.mailmap_suggestions.specs.GroupEntries.{email_shared, name_shared}
+use Rattle.mailmap_suggestions.specs.Forms.{Histories, distinct}
 
 abbrev pub shared_by : Shared → Contact → Text
 shared_by Email = email_shared
 shared_by Name = name_shared
 
--- their old email, or what their answers share
-abbrev pub criterion_text : Criterion → Answered → Text
-criterion_text OldEmail a = folded (answered_contact a).email
-criterion_text (Answer shared) a = shared_by shared (tally_of a.ours).contact
+-- what the answer to a contact shares with others
+abbrev pub text_of : (Contact → Text) → Histories → Tally → Text
+text_of shared h t = shared (answer_to h.ours t.contact)
 
--- ---- groups
+abbrev pub tallies_in : Vec TheTally → List Tally
+tallies_in group = map tally_of group.items
 
-abbrev pub group_members : {X : Type 0} → (X → Text) → List X → Text → List X
-group_members text xs t = filter (λ x. bytes_eq t (text x)) xs
+-- ---- contacts with keys
 
--- one for each text, in the order of first occurrence
-abbrev pub grouped_by : {X : Type 0} → (X → Text) → List X → List (List X)
-grouped_by text xs = map (group_members text xs) (distinct (map text xs))
+abbrev pub keyed_of : Folded × TheTally → Text × Tally
+keyed_of k = (folded_text k.0, tally_of k.1)
 
--- the index of a text
-abbrev pub index_of_text : Text → List Text → Option ℕ
-index_of_text t [] = None
-index_of_text t (u ∷ us) = if bytes_eq t u then Some 0 else option_map suc (index_of_text t us)
+abbrev pub keyed_by : (Tally → Text) → List Tally → List (Text × Tally)
+keyed_by text ts = map (λ t. (text t, t)) ts
 
--- `found` are the groups of these contacts, and `at` has the place of each text's group
-pub record AreContactGroups (text : Answered → Text) (cs : List Answered) (at : BTreeMap Folded ℕ)
-    (found : List (Vec (Bor Answered))) : Type 0 where
-  pub groups : map (λ g. behind g.items) found ≡ grouped_by text cs
-  pub places : (t : Folded) → get folded_cmp at t ≡ index_of_text (folded_text t) (distinct (map text cs))
+abbrev pub keys : List (Text × Tally) → List Text
+keys ks = map (λ k. k.0) ks
 
--- ---- what is known of a group
+abbrev pub has_key : List (Text × Tally) → Text → Bool
+has_key ks key = list_any (bytes_eq key) (keys ks)
 
--- both answers to a contact are `to`
-abbrev pub is_answered_so : Contact → Answered → Bool
-is_answered_so to a = same_contact (tally_of a.ours).contact to && same_contact (tally_of a.gits).contact to
+-- those with a key
+abbrev pub members : List (Text × Tally) → Text → List Tally
+members ks key = map (λ k. k.1) (filter (λ k. bytes_eq key k.0) ks)
 
--- all answers are this library's first one
-abbrev pub are_answered_alike : List Answered → Bool
-are_answered_alike [] = true
-are_answered_alike (c ∷ cs) = list_all (is_answered_so (tally_of c.ours).contact) (c ∷ cs)
+-- one group for each key, in the order of first occurrence
+abbrev pub grouped : List (Text × Tally) → List (List Tally)
+grouped ks = map (members ks) (distinct (keys ks))
 
--- some contacts, all with one email, ASCII case aside
-pub record HasOneEmail (cs : List Contact) : Type 0 where
-  pub some : cs ≢ []
-  pub email : Text
-  pub each : AllByRecursion (λ c. folded c.email ≡ email) cs
+-- the map has those with a key for each key that passes a test
+abbrev pub HasMembers : (Text → Bool) → List (Text × Tally) → BTreeMap Folded (Vec TheTally) → Type 0
+HasMembers passes ks groups = (key : Folded) → option_map tallies_in (get folded_cmp groups key)
+    ≡ (if passes (folded_text key) then Some (members ks (folded_text key)) else None)

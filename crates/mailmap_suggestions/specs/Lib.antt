@@ -1,10 +1,7 @@
 pub use Rattle.mailmap_entries.specs.Folding
-pub mod Answered
 pub mod Changes
-pub mod Contacts
 pub mod Counted
 pub mod Grouping
-pub mod Groups
 pub mod Histories
 pub mod Forms
 pub mod Suggestions

@@ -8,10 +8,9 @@ use Rattle.mailmap_entries.specs.Folding.{Text}
 use Rattle.mailmap_grammar.specs.CanonicalText.{bracketed_email, email_part, name_part}
 use Rattle.mailmap_grammar.specs.Lines.{is_comment}
 use Rattle.mailmap_snapshot.specs.Contacts.{contact_line}
-use Rattle.mailmap_suggestions.specs.Groups.{email_shared, name_shared}
 use Rattle.mailmap_suggestions.specs.Forms.{Histories, plus}
 use Rattle.mailmap_suggestions.specs.Suggestions.{Suggestion, suggestion}
-use Rattle.mailmap_suggestions.specs.GroupEntries.{email_entries, groups}
+use Rattle.mailmap_suggestions.specs.GroupEntries.{email_entries, email_shared, groups, name_shared}
 
 -- ---- lines, without their line feeds
 

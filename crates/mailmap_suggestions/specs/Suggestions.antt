@@ -3,9 +3,8 @@ use Rattle.std.specs.Prelude.{Bool, true, false, List, ◌++◌, map}
 use Rattle.mailmap_contacts.specs.Contacts.{Tally}
 use Rattle.mailmap_entries.specs.Entries.{Mapping}
 use Rattle.mailmap_suggestions.specs.Counted.{counted, git_counted}
-use Rattle.mailmap_suggestions.specs.Groups.{email_shared, name_shared}
 use Rattle.mailmap_suggestions.specs.Forms.{Histories, plus}
-use Rattle.mailmap_suggestions.specs.GroupEntries.{email_entries, group_entries, groups}
+use Rattle.mailmap_suggestions.specs.GroupEntries.{email_entries, email_shared, group_entries, groups, name_shared}
 
 -- the answers to a group of contacts, and the entries that give it one answer
 pub record Suggestion : Type 0 where

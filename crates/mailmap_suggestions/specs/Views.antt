@@ -1,8 +1,6 @@
 -- Suggestions as the code has them.
-use Rattle.std.specs.Prelude.{Bool, false, map, true}
+use Rattle.std.specs.Prelude.{map}
 use Rattle.mailmap_contacts.specs.Answers.{tally_of}
-use Rattle.mailmap_contacts.specs.declared.proper.Shared.{Shared}
-use Rattle.mailmap_contacts.specs.declared.proper.Shared.TheVariants.{Email, Name}
 use Rattle.mailmap_entries.specs.Entries.{mapping_of}
 use Rattle.mailmap_suggestions.specs.Suggestions.{Suggestion}
 use Rattle.mailmap_suggestions.specs.declared.suggestions.Suggestion.{Suggestion as TheSuggestion}
@@ -15,8 +13,3 @@ suggestion_of s = record {
   entries = map mapping_of s.entries.items;
   needs_review = s.needs_review;
 }
-
--- whether answers that share this may be two people
-abbrev pub need_review : Shared → Bool
-need_review Email = false
-need_review Name = true

@@ -1,20 +1,18 @@
 //! What entries for one old email change when they are appended.
-ghost use Rattle.std.specs.Prelude.{◌≡◌, ◌++◌, ◌∷◌, [], List, None, OnOk, if◌then◌else◌, unwrap_or};
-ghost use Rattle.std.specs.List.{AllByRecursion};
+ghost use Rattle.std.specs.Prelude.{◌≡◌, ◌++◌, ◌∷◌, [], List, OnOk};
+ghost use Rattle.std.specs.List.{AllByRecursion, list_all};
 ghost use Rattle.std.specs.Option.{option_copied};
 ghost use Rattle.mailmap_entries.specs.Entries.{Mapping};
-ghost use Rattle.mailmap_entries.specs.Folding.{Text};
-ghost use Rattle.mailmap_entries.specs.Semantics.{last_fields};
-ghost use Rattle.mailmap_contacts.specs.Answers.{answer_key, tally_of};
-ghost use Rattle.mailmap_contacts.specs.Contacts.{Contact, answer_to, same_contact};
-ghost use Rattle.mailmap_suggestions.specs.Answered.{IsRightFor, answered_contact};
-ghost use Rattle.mailmap_suggestions.specs.Changes.{AreChangesBy, IsPlain, email_in, fields_to, given_in, listed};
-ghost use Rattle.mailmap_suggestions.specs.Contacts.{git_answer_to, own_key, replaced};
-ghost use Rattle.mailmap_suggestions.specs.Forms.{Histories, is_answered, name_unless_empty, named_form, plus};
+ghost use Rattle.mailmap_entries.specs.Folding.{Text, folded};
+ghost use Rattle.mailmap_contacts.specs.Answers.{tally_of};
+ghost use Rattle.mailmap_contacts.specs.Contacts.{Contact};
+ghost use Rattle.mailmap_suggestions.specs.Changes.{AreChangesBy, IsPlain, after, are_enough, listed};
+ghost use Rattle.mailmap_suggestions.specs.Forms.{name_unless_empty, named_form};
 
-use crate::answered::Answered;
+use crate::answers::Answers;
 use mailmap_contacts::answers::Tally;
 use mailmap_contacts::folded::Folded;
+use mailmap_contacts::proper::is_same;
 use mailmap_entries::Entry;
 use std::alloc::{AllocError, Global};
 use std::collections::BTreeSet;
@@ -22,7 +20,7 @@ use std::collections::BTreeSet;
 /// What some entries change that are all for one old email: one without an old name, if it is there, and some that
 /// make an answer that of all contacts with their old names.
 ///
-/// A contact's answers after them follow from its answers before, so it takes one look-up to try them on a contact.
+/// A contact's answers after them follow from its answers before, so nothing is read anew to try them.
 #[derive(Drop)]
 pub(crate) struct Changes<'a> {
     // the new fields of the entry without an old name
@@ -57,80 +55,80 @@ impl<'a> Changes<'a> {
     }
 
     /// Adds an entry with the old name and the old email of a contact.
-    pub(crate) fn add_name(&mut self, contact: &Answered<'a>) -> Result<(), AllocError>
+    pub(crate) fn add_name(&mut self, contact: &Tally<'a>) -> Result<(), AllocError>
         ensures { OnOk result ((to : Contact) (added : List Mapping)
-            → AreChangesBy to (email_in contact.now) added self.old
-            → AreChangesBy to (email_in contact.now) (added ++ named_form to (answered_contact contact.now) ∷ []) self.new) }
+            → AreChangesBy to (folded contact.now.email.now) added self.old
+            → AreChangesBy to (folded contact.now.email.now)
+            (added ++ named_form to (tally_of contact.now).contact ∷ []) self.new) }
     {
-        self.names.insert(Folded {
-            text: contact.contact.name,
-        })?;
-        if self.spelling.is_none() {
-            self.spelling = Some(contact.contact.email);
-        }
+        self.names.insert(Folded { text: contact.name })?;
+        self.spelling = self.spelling.or(Some(contact.email));
         Ok(())
     }
 
-    /// Whether this library and git both answer a contact by `to`.
-    pub(crate) fn answers(&self, to: &Tally<'a>, contact: &Answered<'a>) -> bool
-        ensures { (h : Histories) (added : List Mapping) → IsRightFor h contact.now
-            → AreChangesBy (tally_of to.now).contact (email_in contact.now) added self.now
-            → result ≡ is_answered (plus h added) (tally_of to.now).contact (answered_contact contact.now) }
+    /// Whether this library and git both answer all of these by `to` then.
+    pub(crate) fn are_enough_for_all(
+        &self,
+        answers: &Answers<'_, 'a>,
+        to: &Tally<'a>,
+        contacts: &[Tally<'a>],
+    ) -> bool
+        ensures { result ≡ list_all (are_enough self.now answers.now (tally_of to.now).contact) contacts.now }
     {
-        let key = Folded {
-            text: contact.contact.name,
-        };
-        if self.names.contains(&key) {
-            return is_same(named(to, contact), to);
+        for contact in contacts {
+            if !self.are_enough(answers, to, contact) {
+                return false;
+            }
         }
-        is_same(self.ours(contact), to) && is_same(self.gits(contact), to)
+        true
     }
 
-    // What this library answers to a contact, if no entry here has its name.
-    fn ours(&self, contact: &Answered<'a>) -> (&'a [u8], &'a [u8])
-        ensures { (h : Histories) (to : Contact) (added : List Mapping) → IsRightFor h contact.now
-            → AreChangesBy to (email_in contact.now) added self.now
-            → last_fields added (own_key (answered_contact contact.now)) ≡ None
-            → answer_key result ≡ answer_to (plus h added).ours (answered_contact contact.now) }
+    /// Whether they both answer a contact so.
+    pub(crate) fn are_enough(
+        &self,
+        answers: &Answers<'_, 'a>,
+        to: &Tally<'a>,
+        contact: &Tally<'a>,
+    ) -> bool
+        ensures { result ≡ are_enough self.now answers.now (tally_of to.now).contact contact.now }
     {
-        if contact.has_own_entry {
-            return (contact.ours.name, contact.ours.email);
-        }
-        self.given(contact.ours.name, self.kept_email(contact))
+        let ours = answers.ours(contact);
+        let gits = answers.gits(contact);
+        let has_own = answers.has_own_entry(contact);
+        let is_spelled = answers.has_email(contact);
+        let is_gits_own = answers.has_own_entry_in_git(contact);
+        is_same(&self.after(to, contact, &ours, has_own, is_spelled), to)
+            && is_same(&self.after(to, contact, &gits, is_gits_own, true), to)
     }
 
-    // How this library spells a contact's email if no entry gives a new one: as the first entry for it does.
-    fn kept_email(&self, contact: &Answered<'a>) -> &'a [u8]
-        ensures { result.now ≡ (if contact.now.has_email then contact.now.ours.email.now
-            else unwrap_or (option_copied self.now.spelling) contact.now.ours.email.now) }
+    // The answer to a contact, by that before, whether the contact has an entry of its own, and whether its email keeps
+    // the spelling of that answer.
+    fn after(
+        &self,
+        to: &Tally<'a>,
+        contact: &Tally<'a>,
+        before: &Tally<'a>,
+        has_own: bool,
+        is_spelled: bool,
+    ) -> Tally<'a>
+        ensures { (tally_of result).contact ≡ after self.now (tally_of to.now).contact contact.now
+            (tally_of before.now).contact has_own is_spelled }
     {
-        match self.spelling {
-            Some(spelling) if !contact.has_email => spelling,
-            _ => contact.ours.email,
+        if self.names.contains(&Folded { text: contact.name }) {
+            let name = name_unless_empty(to).unwrap_or(contact.name);
+            return Tally { name, ..*to };
         }
-    }
-
-    // What git answers to a contact, if no entry here has its name.
-    fn gits(&self, contact: &Answered<'a>) -> (&'a [u8], &'a [u8])
-        ensures { (h : Histories) (to : Contact) (added : List Mapping) → IsRightFor h contact.now
-            → AreChangesBy to (email_in contact.now) added self.now
-            → last_fields added (own_key (answered_contact contact.now)) ≡ None
-            → answer_key result ≡ git_answer_to (plus h added).gits (answered_contact contact.now) }
-    {
-        if contact.has_own_entry_in_git {
-            return (contact.gits.name, contact.gits.email);
+        if has_own {
+            return *before;
         }
-        self.given(contact.gits.name, contact.gits.email)
-    }
-
-    // These, unless the entry without an old name gives others.
-    fn given(&self, name: &'a [u8], email: &'a [u8]) -> (&'a [u8], &'a [u8])
-        ensures { answer_key result ≡ replaced (given_in self.now) (record { name = name.now; email = email.now }) }
-    {
-        (
-            self.new_name.unwrap_or(name),
-            self.new_email.unwrap_or(email),
-        )
+        // the first entry for an email spells it
+        let spelling = if is_spelled { None } else { self.spelling };
+        let email = spelling.unwrap_or(before.email);
+        Tally {
+            name: self.new_name.unwrap_or(before.name),
+            email: self.new_email.unwrap_or(email),
+            seen: before.seen,
+        }
     }
 }
 
@@ -143,20 +141,4 @@ pub(crate) fn name_unless_empty<'a>(to: &Tally<'a>) -> Option<&'a [u8]>
     } else {
         Some(to.name)
     }
-}
-
-// What a contact is answered if an entry here has its name.
-fn named<'a>(to: &Tally<'a>, contact: &Answered<'a>) -> (&'a [u8], &'a [u8])
-    ensures { answer_key result ≡ replaced (fields_to (tally_of to.now).contact) (answered_contact contact.now) }
-{
-    (
-        name_unless_empty(to).unwrap_or(contact.contact.name),
-        to.email,
-    )
-}
-
-fn is_same(answer: (&[u8], &[u8]), to: &Tally<'_>) -> bool
-    ensures { result ≡ same_contact (answer_key answer.entry) (tally_of to.now).contact }
-{
-    answer.0 == to.name && answer.1 == to.email
 }

@@ -1,20 +1,15 @@
 //! The entries of mailmaps, as this library reads them and as git does.
-ghost use Rattle.std.specs.Prelude.{◌≡◌, ◌++◌, ◌∷◌, [], IfOk, OnOk, map, true};
-ghost use Rattle.std.specs.List.{All};
+ghost use Rattle.std.specs.Prelude.{◌≡◌, ◌++◌, ◌∷◌, [], IfOk, OnOk, map};
 ghost use Rattle.mailmap_entries.specs.Entries.{mapping_of};
-ghost use Rattle.mailmap_entries.specs.Semantics.{accepted, is_accepted as spec_is_accepted};
+ghost use Rattle.mailmap_entries.specs.Semantics.{accepted};
 ghost use Rattle.mailmap_findings.specs.GitAnswers.{git_mappings};
 ghost use Rattle.mailmap_grammar.specs.Lines.{mappings_of};
 ghost use Rattle.mailmap_findings.specs.Git.{git_entries as spec_git_entries};
-ghost use Rattle.mailmap_contacts.specs.Answers.{tally_of};
 ghost use Rattle.mailmap_redundancy.specs.Redundancy.{entries};
-ghost use Rattle.mailmap_suggestions.specs.Answered.{IsRightFor, tally_in};
 ghost use Rattle.mailmap_suggestions.specs.Histories.{histories_of};
 ghost use Rattle.mailmap_suggestions.specs.Forms.{plus};
 
-use crate::answered::{Answered, answer_all};
 use bstr::ByteSlice;
-use mailmap_contacts::answers::Tally;
 use mailmap_entries::Entry;
 use mailmap_findings::git::git_entries;
 use mailmap_grammar::lines::parse_ignore_errors;
@@ -66,31 +61,10 @@ impl<'a> Histories<'a> {
             gits: History::new(alloc),
         };
         for buffer in buffers {
-            histories.read_more(buffer)?;
+            histories.ours.read(buffer)?;
+            histories.gits.read_as_git(buffer)?;
         }
         Ok(histories)
-    }
-
-    fn read_more(&mut self, buffer: &'a [u8]) -> Result<(), AllocError>
-        ensures ours { OnOk result (self.new.ours ≡ self.old.ours ++ mappings_of buffer.now) }
-        ensures gits { OnOk result (self.new.gits ≡ self.old.gits ++ git_mappings buffer.now) }
-    {
-        self.ours.read(buffer)?;
-        self.gits.read_as_git(buffer)
-    }
-
-    /// The contacts with the answers to them, in their order.
-    pub(crate) fn answer_all(
-        &self,
-        alloc: Global,
-        contacts: &[Tally<'a>],
-    ) -> Result<Vec<Answered<'a>>, AllocError>
-        ensures contacts { IfOk result (λ all. map tally_in all.items ≡ map tally_of contacts.now) }
-        ensures answered { IfOk result (λ all. All (IsRightFor self.now) all.items) }
-    {
-        let ours = self.ours.effective(alloc)?;
-        let gits = self.gits.effective(alloc)?;
-        Ok(answer_all(alloc, contacts, &ours, &gits)?)
     }
 
     /// Appends entries that both have, but none that maps nothing.
@@ -98,26 +72,10 @@ impl<'a> Histories<'a> {
         ensures { OnOk result (self.new ≡ plus self.old (accepted (map mapping_of more.now))) }
     {
         for entry in more {
-            self.push_accepted(*entry)?;
+            self.ours.push(*entry)?;
+            self.gits.push(*entry)?;
         }
         Ok(())
-    }
-
-    fn push_accepted(&mut self, entry: Entry<'a>) -> Result<(), AllocError>
-        ensures { OnOk result (self.new ≡ plus self.old (accepted (mapping_of entry.entry ∷ []))) }
-    {
-        if is_accepted(&entry) {
-            return self.push(entry);
-        }
-        Ok(())
-    }
-
-    fn push(&mut self, entry: Entry<'a>) -> Result<(), AllocError>
-        requires { spec_is_accepted (mapping_of entry) ≡ true }
-        ensures { OnOk result (self.new ≡ plus self.old (mapping_of entry.entry ∷ [])) }
-    {
-        self.ours.push(entry)?;
-        self.gits.push(entry)
     }
 }
 
@@ -131,14 +89,14 @@ impl<'a> History<'a> {
     }
 
     /// What answers as these entries do.
-    #[tactic(auto, using(crate::proofs::Suggesting::entries_in))]
+    #[tactic(auto, using(crate::proofs::Forms::entries_in))]
     pub(crate) fn effective(&self, alloc: Global) -> Result<Effective<'_, 'a>, AllocError>
         ensures { IfOk result (λ effective. entries effective.history ≡ self.now) }
     {
         Ok(without_redundant(alloc, self.entries.as_slice())?)
     }
 
-    #[tactic(auto, using(crate::proofs::Suggesting::ours_accepted))]
+    #[tactic(auto, using(crate::proofs::Forms::ours_accepted))]
     fn read(&mut self, buffer: &'a [u8]) -> Result<(), AllocError>
         ensures { OnOk result (self.new ≡ self.old ++ mappings_of buffer.now) }
     {
@@ -157,7 +115,7 @@ impl<'a> History<'a> {
         Ok(())
     }
 
-    #[tactic(auto, using(crate::proofs::Suggesting::line_accepted))]
+    #[tactic(auto, using(crate::proofs::Forms::line_accepted))]
     fn read_line_as_git(&mut self, line: &'a [u8]) -> Result<(), AllocError>
         ensures { OnOk result (self.new ≡ self.old ++ spec_git_entries line.now) }
     {
@@ -168,17 +126,12 @@ impl<'a> History<'a> {
     }
 
     fn push(&mut self, entry: Entry<'a>) -> Result<(), AllocError>
-        requires { spec_is_accepted (mapping_of entry) ≡ true }
-        ensures { OnOk result (self.new ≡ self.old ++ mapping_of entry.entry ∷ []) }
+        ensures { OnOk result (self.new ≡ self.old ++ accepted (mapping_of entry.entry ∷ [])) }
     {
-        let position = Position { buffer: 0, line: 0 };
-        self.entries.push(LocatedEntry { position, entry })?;
+        if entry.new_name().is_some() || entry.new_email().is_some() {
+            let position = Position { buffer: 0, line: 0 };
+            self.entries.push(LocatedEntry { position, entry })?;
+        }
         Ok(())
     }
-}
-
-fn is_accepted(entry: &Entry<'_>) -> bool
-    ensures { result ≡ spec_is_accepted (mapping_of entry.now) }
-{
-    entry.new_name().is_some() || entry.new_email().is_some()
 }

@@ -9,13 +9,12 @@ ghost use Rattle.mailmap_findings.specs.Findings.{first_read_otherwise};
 ghost use Rattle.mailmap_findings.specs.GitAnswers.{git_mappings};
 ghost use Rattle.mailmap_grammar.specs.CanonicalText.{IsWritable};
 ghost use Rattle.mailmap_grammar.specs.Lines.{HoldsNo, mappings_of, reading, strict_reading};
-ghost use Rattle.mailmap_suggestions.specs.Contacts.{git_answer_to, own_key};
-ghost use Rattle.mailmap_suggestions.specs.Groups.{email_shared, name_shared};
-ghost use Rattle.mailmap_suggestions.specs.Forms.{Histories, alike};
+ghost use Rattle.mailmap_suggestions.specs.Forms.{Histories, alike, git_answer_to, own_key};
 ghost use Rattle.mailmap_suggestions.specs.Suggestions.{suggestions};
 ghost use Rattle.mailmap_suggestions.specs.SuggestedText.{count_line, entry_line, reviewed_text, mark, suggested_text};
 ghost use Rattle.mailmap_suggestions.specs.SuggestedText.{suggestions_text};
-ghost use Rattle.mailmap_suggestions.specs.GroupEntries.{HasNoEmptyName, IsWritableContact, Unites, contacts, email_entries, name_entries};
+ghost use Rattle.mailmap_suggestions.specs.GroupEntries.{HasNoEmptyName, IsWritableContact, Unites, contacts};
+ghost use Rattle.mailmap_suggestions.specs.GroupEntries.{email_entries, email_shared, name_entries, name_shared};
 
 /// An entry with an old name changes only answers to contacts with its key, if there is an entry for its email before.
 /// An entry without one changes only answers to contacts with its email that have no entry of their own.
@@ -47,7 +46,7 @@ pub fn law_exact()
 
 /// Contacts with the same key, or with the same email and no entries of their own, have answers with the same email,
 /// ASCII case aside. With the same key, they have the same name, too, except for the case.
-#[tactic(auto, using(crate::proofs::OneEmail::linked_email, crate::proofs::OneEmail::linked_name))]
+#[tactic(auto, using(crate::proofs::Appended::linked_email, crate::proofs::Appended::linked_name))]
 pub fn law_linked()
     ensures email { (h : List Mapping) (b c : Contact) → folded b.email ≡ folded c.email
         → (folded b.name ≡ folded c.name) ⊎ ((last_fields h (own_key b) ≡ None) × (last_fields h (own_key c) ≡ None))
@@ -58,7 +57,7 @@ pub fn law_linked()
 
 /// If git reads each line of mailmaps as this library does, both have the same entries. No new name that is read is
 /// empty. So the next law holds for such mailmaps.
-#[tactic(auto, using(crate::proofs::Texts::same_histories, crate::proofs::Texts::all_named))]
+#[tactic(auto, using(mailmap_findings::proofs::Pruned::same_histories, crate::proofs::United::lines_named))]
 pub fn law_read_alike()
     ensures histories { (buffers : List Text) → first_read_otherwise buffers ≡ None
         → flat_map git_mappings buffers ≡ flat_map mappings_of buffers }
@@ -68,7 +67,7 @@ pub fn law_read_alike()
 /// With mailmaps that git reads as this library does, the suggested entries do what they are for. With those of the
 /// first kind appended, no two answers share an email and differ; with those of the second kind, too, no two share a
 /// name, either. Contacts in no group are answered as before, and git answers the same.
-#[tactic(auto, using(crate::proofs::Suggested::unites_emails, crate::proofs::Suggested::unites_names, crate::proofs::Suggested::emails_stay))]
+#[tactic(auto, using(crate::proofs::United::unites_emails, crate::proofs::United::unites_names, crate::proofs::United::emails_stay))]
 pub fn law_suggestions()
     ensures emails { (h : List Mapping) (ts : List Tally) → AllByRecursion HasNoEmptyName h
         → Unites email_shared h ts (h ++ email_entries (alike h) ts) }

@@ -1,11 +1,10 @@
 //! Which lines a mailmap lacks for the contacts of a history. An internal crate of `gix_mailmap`.
 #![tactic(auto)]
 
-mod answered;
+pub mod answers;
 mod changes;
 mod counted;
 mod entries;
-pub mod git_answers;
 mod groups;
 mod histories;
 pub mod laws;

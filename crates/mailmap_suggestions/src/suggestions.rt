@@ -6,20 +6,17 @@ ghost use Rattle.mailmap_entries.specs.Semantics.{accepted};
 ghost use Rattle.mailmap_contacts.specs.Answers.{tally_of};
 ghost use Rattle.mailmap_contacts.specs.Contacts.{contacts_from, tallied};
 ghost use Rattle.mailmap_contacts.specs.Counts.{AreContactsOf};
-ghost use Rattle.mailmap_suggestions.specs.Answered.{AreAnswered, HaveAscendingLines, HaveDistinctContacts, tallies_behind};
 ghost use Rattle.mailmap_suggestions.specs.Grouping.{shared_by};
-ghost use Rattle.mailmap_suggestions.specs.Groups.{email_shared, name_shared};
 ghost use Rattle.mailmap_suggestions.specs.Histories.{histories_of};
-ghost use Rattle.mailmap_suggestions.specs.Forms as spec;
 ghost use Rattle.mailmap_suggestions.specs.Forms.{plus};
 ghost use Rattle.mailmap_suggestions.specs.Suggestions.{suggestion, suggestions};
 ghost use Rattle.mailmap_suggestions.specs.GroupEntries.{groups};
-ghost use Rattle.mailmap_suggestions.specs.Views.{need_review, suggestion_of};
+ghost use Rattle.mailmap_suggestions.specs.Views.{suggestion_of};
 
-use crate::answered::Answered;
+use crate::answers::Answers;
 use crate::counted::{counted_answers, counted_git_answers, proper_of};
-use crate::entries::group_entries;
-use crate::groups::{by_old_email, groups_of};
+use crate::entries::entries_to;
+use crate::groups::groups_of;
 use crate::histories::Histories;
 use mailmap_contacts::answers::Tally;
 use mailmap_contacts::counter::Contacts;
@@ -58,9 +55,16 @@ pub fn suggest<'a>(
     let mut histories = Histories::read(alloc, buffers)?;
     let contacts = contacts.in_order(alloc)?;
     let mut found = Vec::new(alloc);
-    push_suggestions(alloc, Shared::Email, &histories, &contacts, &mut found)?;
+    push_suggestions(
+        alloc,
+        Shared::Email,
+        false,
+        &histories,
+        &contacts,
+        &mut found,
+    )?;
     add_entries(&mut histories, &found)?;
-    push_suggestions(alloc, Shared::Name, &histories, &contacts, &mut found)?;
+    push_suggestions(alloc, Shared::Name, true, &histories, &contacts, &mut found)?;
     Ok(found)
 }
 
@@ -68,51 +72,40 @@ pub fn suggest<'a>(
 fn push_suggestions<'a>(
     alloc: Global,
     shared: Shared,
+    need_review: bool,
     histories: &Histories<'a>,
     contacts: &[Tally<'a>],
     found: &mut Vec<Suggestion<'a>>,
 ) -> Result<(), AllocError>
-    ensures { HaveAscendingLines (map tally_of contacts.now) → HaveDistinctContacts (map tally_of contacts.now)
-        → OnOk result (map suggestion_of found.new.items ≡ map suggestion_of found.old.items
-        ++ map (suggestion histories.now (need_review shared))
+    ensures { OnOk result (map suggestion_of found.new.items ≡ map suggestion_of found.old.items
+        ++ map (suggestion histories.now need_review)
         (groups (shared_by shared) histories.now (map tally_of contacts.now))) }
 {
-    let answered = histories.answer_all(alloc, contacts)?;
-    let groups = groups_of(alloc, shared, &answered)?;
+    let answers = Answers::new(alloc, histories)?;
+    let groups = groups_of(alloc, &answers, shared, contacts)?;
     for group in &groups {
-        found.push(suggest_for(alloc, group, need_review(shared))?)?;
+        found.push(suggest_for(alloc, &answers, group, need_review)?)?;
     }
     Ok(())
-}
-
-// Whether answers that share this may be two people.
-fn need_review(shared: Shared) -> bool
-    ensures { result ≡ need_review shared }
-{
-    match shared {
-        Shared::Email => false,
-        Shared::Name => true,
-    }
 }
 
 // What is suggested for a group.
 fn suggest_for<'a>(
     alloc: Global,
-    group: &[&Answered<'a>],
+    answers: &Answers<'_, 'a>,
+    group: &[Tally<'a>],
     needs_review: bool,
 ) -> Result<Suggestion<'a>, AllocError>
-    ensures { (h : spec.Histories) → AreAnswered h group.now → HaveAscendingLines (tallies_behind group.now)
-        → HaveDistinctContacts (tallies_behind group.now)
-        → IfOk result (λ s. suggestion_of s ≡ suggestion h needs_review (tallies_behind group.now)) }
+    ensures { IfOk result (λ s. suggestion_of s ≡ suggestion answers.now needs_review (map tally_of group.now)) }
 {
-    let answers = counted_answers(alloc, group)?;
-    let entries = match proper_of(&answers) {
-        Some(proper) => group_entries(alloc, proper, &by_old_email(alloc, group)?)?,
+    let counted = counted_answers(alloc, answers, group)?;
+    let entries = match proper_of(&counted) {
+        Some(proper) => entries_to(alloc, answers, proper, group)?,
         None => Vec::new(alloc),
     };
     Ok(Suggestion {
-        answers,
-        git_answers: counted_git_answers(alloc, group)?,
+        answers: counted,
+        git_answers: counted_git_answers(alloc, answers, group)?,
         entries,
         needs_review,
     })

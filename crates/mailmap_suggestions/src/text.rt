@@ -1,10 +1,10 @@
 //! The text of suggestions.
-ghost use Rattle.std.specs.Prelude.{◌≡◌, ◌++◌, ◌∷◌, [], OnOk, if◌then◌else◌, map, unwrap_or};
+ghost use Rattle.std.specs.Prelude.{◌≡◌, ◌++◌, ◌∷◌, [], OnOk, map, unwrap_or};
 ghost use Rattle.std.specs.Option.{option_copied};
 ghost use Rattle.mailmap_contacts.specs.Answers.{tally_of};
 ghost use Rattle.mailmap_entries.specs.Entries.{mapping_of};
 ghost use Rattle.mailmap_grammar.specs.Lines.{is_comment};
-ghost use Rattle.mailmap_suggestions.specs.SuggestedText.{by_git, count_line, count_lines, entry_line, entry_lines, fields_text, mark, suggestion_text};
+ghost use Rattle.mailmap_suggestions.specs.SuggestedText.{count_line, count_lines, entry_line, entry_lines, fields_text, mark, suggestion_text};
 ghost use Rattle.mailmap_suggestions.specs.Views.{suggestion_of};
 
 use crate::suggestions::Suggestion;

@@ -1,44 +1,40 @@
 -- The entries of groups are a normal list, and what it answers to a signature.
-use Rattle.std.proofs.Common.{◌≡◌, ◌≢◌, ℕ, ◌<◌, Bool, true, false, true≢false, cond, ◌||◌, if◌then◌else◌}
-use Rattle.std.proofs.Common.{is_some, List, [], ◌∷◌, ◌++◌, map, filter, drop, get_or, length}
-use Rattle.std.proofs.Common.{append_assoc, Option, Some, None, option_map, unwrap_or, Ordering, Less, Equal, Greater}
-use Rattle.std.proofs.Common.{is_eq, refl, sym, ap, ap₂, subst, ◌∙◌, arith, ◌+◌}
-use Rattle.std.specs.Cmp.{Equal-is, tied_itself}
+use Rattle.std.proofs.Common.{◌≡◌, ◌≢◌, ℕ, ◌<◌, ◌≤◌, Bool, true, false, true≢false, cond, ◌&&◌, ◌||◌, if◌then◌else◌}
+use Rattle.std.proofs.Common.{is_some, List, [], ◌∷◌, ◌++◌, map, filter, drop, get_or, length, append-nil, append_assoc}
+use Rattle.std.proofs.Common.{Option, Some, None, option_map, unwrap_or, Ordering, Less, Equal, is_eq, refl, sym, ap}
+use Rattle.std.proofs.Common.{ap₂, subst, ◌∙◌, arith, ◌+◌}
+use Rattle.std.specs.Cmp.{IsTotalOrder, tied_itself}
 use Rattle.std.specs.Cmp.Lexicographic.{nat_list_cmp_total}
-use Rattle.std.specs.List.{AllByRecursion, AllWithin, slice_get}
+use Rattle.std.specs.List.{AllByRecursion, slice_get}
 use Rattle.std.specs.List.Sorted.{IsStrictlySortedBy}
 use Rattle.std.specs.Option.{option_cmp}
 use Rattle.std.specs.Ordering.{eq_by_cmp, ordering_then, ordering_reverse}
-use Rattle.std.proofs.lemmas.Bool.{or_right, cases_lt, false_from_ne_true, eqb-true}
+use Rattle.std.proofs.lemmas.Bool.{or_right, cases_lt}
 use Rattle.std.proofs.lemmas.Grind.{common_steps, flat_map-append}
 use Rattle.std.proofs.lemmas.List.{drop_more}
-use Rattle.std.proofs.lemmas.List.Elements.{All-filter, All-from_recursion, recursion_from_All}
+use Rattle.std.proofs.lemmas.List.Elements.{All-from_recursion, filter-append, filter_agree, recursion_from_All}
 use Rattle.std.proofs.lemmas.Map.Keys.{sorted_head, sorted_tail}
-use Rattle.std.proofs.lemmas.Map.Lookups.{exact_bytes}
 use Rattle.mailmap_entries.specs.Entries.{Mapping}
 use Rattle.mailmap_entries.specs.Folding.{Text, folded, text_cmp}
-use Rattle.mailmap_batches.specs.Given.{NameGroup}
-use Rattle.mailmap_tables.specs.Groups.{EmailGroup, IsGroup, AreGroups, email_key, name_key, name_fields, name_row}
-use Rattle.mailmap_tables.specs.Groups.{own_rows, rows, listing, IsComplete, Contents}
+use Rattle.mailmap_tables.specs.Groups.{AreGroups, Contents, EmailGroup, IsGroup, NameGroup, email_key, listing}
+use Rattle.mailmap_tables.specs.Groups.{name_fields, name_key, name_row, own_rows, rows}
 use Rattle.mailmap_entries.specs.Building.{IsListing, IsPaired}
-use Rattle.mailmap_entries.specs.Semantics.{Fields, key, key_cmp, first, last_given, is_accepted, accepted}
-use Rattle.mailmap_entries.specs.Semantics.{of_key, has_key, given_fields, last_fields}
+use Rattle.mailmap_entries.specs.Semantics.{Fields, key, key_cmp, first, last, last_given, is_accepted, accepted}
+use Rattle.mailmap_entries.specs.Semantics.{of_email, of_key, has_key, given_fields, last_fields, new_fields}
 use Rattle.mailmap_entries.specs.Semantics.{mapping_with, spelling, value, fields_with_spelling, answer_of, IsNormal}
-use Rattle.mailmap_entries.proofs.Alike.{Alike, alike_back, same_normal}
-use Rattle.mailmap_entries.proofs.Exists.{speller}
-use Rattle.mailmap_entries.proofs.Normal.{known}
-use Rattle.mailmap_tables.proofs.Lists.{all_at}
-use Rattle.mailmap_tables.proofs.Order.{apart_less}
-use Rattle.mailmap_entries.proofs.Joined.{filter_none, never}
+use Rattle.mailmap_entries.proofs.Alike.{Alike, alike_back, picked-append, same_normal}
+use Rattle.mailmap_entries.proofs.Joined.{filter_none}
 use Rattle.mailmap_entries.proofs.Keys.{keys_total}
-use Rattle.mailmap_entries.proofs.Parts.{first_alike, all_head, all_append, all_tail, all_map, all_apply, filter_all}
-use Rattle.mailmap_entries.proofs.Parts.{all_weaker, all_mapped}
-use Rattle.std.specs.Prelude.{nat_eq}
+use Rattle.mailmap_entries.proofs.Lookups.{missing-above, missing-below}
+use Rattle.mailmap_entries.proofs.Parts.{all_append, all_map, all_apply, filter-filter, filter_all, all_weaker}
+use Rattle.mailmap_entries.proofs.Parts.{filter-map, all_mapped}
 use Rattle.std.proofs.lemmas.Option.{get_or_from_slice_get, slice_get_within}
-use Rattle.mailmap_tables.specs.Remaining.{left_to_list}
-use Rattle.mailmap_tables.specs.Pool.{spelled, group_of}
+use Rattle.mailmap_tables.specs.KeySearch.{IsMissing}
+use Rattle.mailmap_tables.specs.Pool.{left_to_list, spelled, group_of}
 use Rattle.mailmap_tables.specs.RowTexts.{old_span}
 use Rattle.mailmap_tables.specs.declared.texts.RowTexts.{RowTexts}
+use Rattle.mailmap_entries.proofs.Reorder.{both_equal}
+use Rattle.mailmap_entries.proofs.Building.{other_text}
 
 -- ---- predicates that hold for every row
 
@@ -58,14 +54,12 @@ own_all P g f = grind (arith, common_steps)
 
 -- all rows of an email have its spelling
 pub rows_spelled : (g : EmailGroup) → AllByRecursion (λ r. r.old_email ≡ g.old_email) (rows g)
-rows_spelled g =
-    all_append _ (own_rows g) (map (name_row g.old_email) g.names) (own_all _ g (λ _. refl))
+rows_spelled g = all_append _ (own_rows g) (map (name_row g.old_email) g.names) (own_all _ g (λ _. refl))
     (all_rows _ g.old_email g.names (λ n. refl))
 
 -- all rows of an email are accepted
 pub rows_accepted : (g : EmailGroup) → AllByRecursion (λ e. is_accepted e ≡ true) (rows g)
-rows_accepted g =
-    all_append _ (own_rows g) (map (name_row g.old_email) g.names) (own_all _ g (λ given. given))
+rows_accepted g = all_append _ (own_rows g) (map (name_row g.old_email) g.names) (own_all _ g (λ given. given))
     (all_rows _ g.old_email g.names (λ n. or_right (is_some n.new_name) true refl))
 
 -- what holds for the rows of each group holds for all entries
@@ -83,19 +77,19 @@ listing-append xs ys = flat_map-append rows xs ys
 
 -- ---- the listing is a normal list
 
--- in a strictly ascending list, no two entries have the same key
-alone : (n : List Mapping) → IsStrictlySortedBy key_cmp (map key n)
-    → AllByRecursion (λ e. filter (λ x. eq_by_cmp key_cmp (key e) (key x)) n ≡ e ∷ []) n
-alone [] s = tt
-alone (x ∷ n) s =
-    let above : AllByRecursion (λ y. key_cmp (key x) (key y) ≡ Less) n = all_map key (λ k. key_cmp (key x) k ≡ Less) n
-    (sorted_head key_cmp (key x) (map key n) s) in
-    let p : Mapping → Bool = λ y. eq_by_cmp key_cmp (key x) (key y) in (
-      λ i. cond (is_eq (tied_itself keys_total (key x) i)) (x ∷ filter_none p n (all_weaker n (λ y less. ap is_eq less)
-          above) i) (filter p n),
-      all_apply _ _ _ (λ e less here. ap (λ o. cond (is_eq o) (x ∷ filter (λ y. eq_by_cmp key_cmp (key e) (key y)) n)
-          (filter (λ y. eq_by_cmp key_cmp (key e) (key y)) n)) (keys_total.antisymm (key e) (key x)
-          ∙ ap ordering_reverse less) ∙ here) n above (alone n (sorted_tail key_cmp (key x) (map key n) s)),
+-- in a strictly ascending list, no two elements have the same key
+alone : {X K : Type 0} {R : K → K → Ordering} (o : IsTotalOrder R) (f : X → K) (xs : List X)
+    → IsStrictlySortedBy R (map f xs) → AllByRecursion (λ e. filter (λ x. eq_by_cmp R (f e) (f x)) xs ≡ e ∷ []) xs
+alone o f [] s = tt
+alone {X} {K} {R} o f (x ∷ xs) s =
+    let above : AllByRecursion (λ y. R (f x) (f y) ≡ Less) xs = all_map f (λ k. R (f x) k ≡ Less) xs
+    (sorted_head R (f x) (map f xs) s) in
+    let p : X → Bool = λ y. eq_by_cmp R (f x) (f y) in (
+      λ i. cond (is_eq (tied_itself o (f x) i)) (x ∷ filter_none p xs (all_weaker xs (λ y less. ap is_eq less) above) i)
+          (filter p xs),
+      all_apply _ _ _ (λ e less here. ap (λ r. cond (is_eq r) (x ∷ filter (λ y. eq_by_cmp R (f e) (f y)) xs)
+          (filter (λ y. eq_by_cmp R (f e) (f y)) xs)) (o.antisymm (f e) (f x) ∙ ap ordering_reverse less) ∙ here)
+          xs above (alone o f xs (sorted_tail R (f x) (map f xs) s)),
     )
 
 -- an entry is the value of its key if no other has this key and the list spells its email the same
@@ -112,9 +106,9 @@ self_normal n ascending good spelled =
     record {
       ascending = ascending;
       keys = λ k. ap (λ l. has_key l k) (sym whole);
-      values =
-          All-from_recursion _ n (all_apply _ _ _ (λ e here said. value_alone n e
-          (ap (filter (λ x. eq_by_cmp key_cmp (key e) (key x))) whole ∙ here) said) n (alone n ascending) spelled);
+      values = All-from_recursion _ n (all_apply _ _ _ (λ e here said. value_alone n e
+          (ap (filter (λ x. eq_by_cmp key_cmp (key e) (key x))) whole ∙ here) said) n (alone keys_total key n ascending)
+          spelled);
     }
 
 -- ---- the listing ascends
@@ -139,12 +133,11 @@ names_sorted : (email : Text) (ns : List NameGroup) → IsStrictlySortedBy text_
     → IsStrictlySortedBy key_cmp (map key (map (name_row email) ns))
 unfolding IsStrictlySortedBy
 names_sorted email [] s = tt
-names_sorted email (n ∷ ns) s = (above ns s.0, names_sorted email ns s.1)
-  where
-    above : (xs : List NameGroup) → AllByRecursion (λ k. text_cmp (name_key n) k ≡ Less) (map name_key xs)
-        → AllByRecursion (λ k. key_cmp (key (name_row email n)) k ≡ Less) (map key (map (name_row email) xs))
-    above [] a = tt
-    above (x ∷ xs) a = (by_name (folded email) (Some (name_key n)) (Some (name_key x)) a.0, above xs a.1)
+names_sorted email (n ∷ ns) s = (
+  all_mapped key _ (map (name_row email) ns) (all_mapped (name_row email) _ ns (all_weaker ns
+      (λ x. by_name (folded email) (Some (name_key n)) (Some (name_key x))) (all_map name_key _ ns s.0))),
+  names_sorted email ns s.1,
+)
 
 rows_sorted : (g : EmailGroup) → IsStrictlySortedBy text_cmp (map name_key g.names)
     → IsStrictlySortedBy key_cmp (map key (rows g))
@@ -165,192 +158,99 @@ listing_sorted [] s each = tt
 listing_sorted (g ∷ gs) s each =
     sorted_entries (rows g) (listing gs) (rows_sorted g each.0.ascending) (listing_sorted gs s.1 each.1)
     (all_weaker (rows g) (λ x same. listing_all _ gs (all_weaker gs (λ z less. all_weaker (rows z)
-    (λ y alike. by_email x y (ap₂ (λ a b. text_cmp (folded a) (folded b)) same alike ∙ less)) (rows_spelled z))
+    (λ y alike. less_email x y (ap₂ (λ a b. text_cmp (folded a) (folded b)) same alike ∙ less)) (rows_spelled z))
     (all_map email_key (λ k. text_cmp (email_key g) k ≡ Less) gs s.0))) (rows_spelled g))
   where
-    by_email : (x y : Mapping) → text_cmp (folded x.old_email) (folded y.old_email) ≡ Less
+    less_email : (x y : Mapping) → text_cmp (folded x.old_email) (folded y.old_email) ≡ Less
         → key_cmp (key x) (key y) ≡ Less
-    by_email x y less = ap (λ o. ordering_then o (option_cmp text_cmp (key x).1 (key y).1)) less
+    less_email x y less = ap (λ o. ordering_then o (option_cmp text_cmp (key x).1 (key y).1)) less
 
 -- ---- the entries for one email
 
--- a filter selects nothing if no entry passes
-pub picked_none : (p : Mapping → Bool) (l : List Mapping) → AllByRecursion (λ x. p x ≡ false) l
-    → filter p (accepted l) ≡ []
-picked_none p l a =
-    filter_none p (accepted l) (recursion_from_All _ (accepted l) (All-filter is_accepted (λ x. p x ≡ false) l
-    (All-from_recursion _ l a)))
+filter_alike : {X : Type 0} (p : X → Bool) (b : Bool) (xs : List X) → AllByRecursion (λ x. p x ≡ b) xs
+    → filter p xs ≡ cond b xs []
+filter_alike p true xs a = filter_all p xs a
+filter_alike p false xs a = filter_none p xs a
 
-pub other_text : (a b : Text) → (b ≡ a → ⊥) → eq_by_cmp text_cmp a b ≡ false
-other_text a b other =
-    false_from_ne_true (eq_by_cmp text_cmp a b) (λ same. other (sym (exact_bytes a b ((Equal-is (text_cmp a b)).0
-    same))))
-
--- an email that no group has
-pub not_mailed : (email : Text) (gs : List EmailGroup) → AllByRecursion (λ g. email_key g ≡ email → ⊥) gs
-    → AllByRecursion (λ x. eq_by_cmp text_cmp email (folded x.old_email) ≡ false) (listing gs)
-not_mailed email gs other =
-    listing_all _ gs (all_weaker gs (λ g no. all_weaker (rows g) (λ x same. other_text email (folded x.old_email)
-    (λ is. no (ap folded (sym same) ∙ is))) (rows_spelled g)) other)
-
--- what the first of two orders distinguishes, both together distinguish
-not_first : (o r : Ordering) → is_eq o ≡ false → is_eq (ordering_then o r) ≡ false
-not_first Less r e = refl
-not_first Equal r e = absurd (true≢false e)
-not_first Greater r e = refl
-
--- an email of ascending groups: no other has its key, and no two entries have the same key
-pub record IsAmong (gs : List EmailGroup) (g : EmailGroup) : Type 0 where
-  pub group : IsGroup g
-  pub only : AllByRecursion (λ h. email_key g ≡ email_key h → h ≡ g) gs
-  pub alone : AllByRecursion (λ e. of_key (listing gs) (key e) ≡ e ∷ []) (rows g)
-
-pub all_among : (gs : List EmailGroup) → AreGroups gs → AllByRecursion (IsAmong gs) gs
-all_among gs are =
-    go gs are.each (unique gs are.ascending) (each _ gs (all_weaker (listing gs) (λ e here. ap (filter (λ x. eq_by_cmp
-    key_cmp (key e) (key x))) (filter_all is_accepted (listing gs) (groups_accepted gs)) ∙ here)
-    (alone (listing gs) (listing_sorted gs are.ascending are.each))))
+-- the entries for an email are those of the groups that have it
+picked : (k : Text) (gs : List EmailGroup) → of_email (listing gs) k
+    ≡ listing (filter (λ g. eq_by_cmp text_cmp k (email_key g)) gs)
+picked k [] = refl
+picked k (g ∷ gs) =
+    let p = λ (x : Mapping). eq_by_cmp text_cmp k (folded x.old_email) in
+    let b = eq_by_cmp text_cmp k (email_key g) in
+    let here : filter p (accepted (rows g)) ≡ cond b (rows g) [] = ap (filter p) (filter_all is_accepted (rows g)
+    (rows_accepted g)) ∙ filter_alike p b (rows g) (all_weaker (rows g) (λ x same. ap (λ t. eq_by_cmp text_cmp k
+    (folded t)) same) (rows_spelled g)) in
+    picked-append p (rows g) (listing gs) ∙ ap₂ (λ l m. l ++ m) here (picked k gs)
+    ∙ joined b (filter (λ g. eq_by_cmp text_cmp k (email_key g)) gs)
   where
-    go : (xs : List EmailGroup) → AllByRecursion IsGroup xs
-        → AllByRecursion (λ g. AllByRecursion (λ h. email_key g ≡ email_key h → h ≡ g) gs) xs
-        → AllByRecursion (λ g. AllByRecursion (λ e. of_key (listing gs) (key e) ≡ e ∷ []) (rows g)) xs
-        → AllByRecursion (IsAmong gs) xs
-    go [] a b c = tt
-    go (g ∷ xs) a b c = (record { group = a.0; only = b.0; alone = c.0 }, go xs a.1 b.1 c.1)
+    joined : (b : Bool) (hs : List EmailGroup) → cond b (rows g) [] ++ listing hs ≡ listing (cond b (g ∷ hs) hs)
+    joined b hs = grind arith
 
-    unique : (xs : List EmailGroup) → IsStrictlySortedBy text_cmp (map email_key xs)
-        → AllByRecursion (λ g. AllByRecursion (λ h. email_key g ≡ email_key h → h ≡ g) xs) xs
-    unique [] up = tt
-    unique (g ∷ xs) up =
-        let above = all_map email_key (λ k. text_cmp (email_key g) k ≡ Less) xs (sorted_head text_cmp (email_key g)
-        (map email_key xs) up) in (
-          ((λ _. refl), all_weaker xs (λ h less same. absurd (apart_less (email_key g) (email_key h) less same)) above),
-          all_apply _ _ _ (λ h less rest. (
-            (λ same. absurd (apart_less (email_key g) (email_key h) less (sym same))),
-            rest,
-          )) xs above (unique xs (sorted_tail text_cmp (email_key g) (map email_key xs) up)),
-        )
+-- texts that don't compare as equal
+pub apart_less : (x y : Text) → text_cmp x y ≡ Less → x ≢ y
+apart_less x y p e =
+    let q : Equal ≡ Less = sym (tied_itself nat_list_cmp_total y) ∙ ap (λ t. text_cmp t y) (sym e) ∙ p in absurd (cc)
 
-    each : (P : Mapping → Type 0) (xs : List EmailGroup) → AllByRecursion P (listing xs)
-        → AllByRecursion (λ g. AllByRecursion P (rows g)) xs
-    each P [] a = tt
-    each P (g ∷ xs) a = (all_head _ (rows g) (listing xs) a, each P xs (all_tail _ (rows g) (listing xs) a))
+-- no other of the groups has its key
+abbrev IsOnly : List EmailGroup → EmailGroup → Type 0
+IsOnly gs g = filter (λ h. eq_by_cmp text_cmp (email_key g) (email_key h)) gs ≡ g ∷ []
 
-module _ {gs : List EmailGroup} {g : EmailGroup} (among : IsAmong gs g) where
-  -- what holds for its entries, and for those of other emails
-  everywhere : (P : Mapping → Type 0) → ((x : Mapping) → eq_by_cmp text_cmp (email_key g) (folded x.old_email) ≡ false
-      → P x) → AllByRecursion P (rows g) → AllByRecursion P (listing gs)
-  everywhere P other here =
-      listing_all P gs (all_weaker gs (λ h is. at h is (eq_by_cmp text_cmp (email_key g) (email_key h)) refl)
-      among.only)
+abbrev has_name : Option Text → Mapping → Bool
+has_name o e = eq_by_cmp (option_cmp text_cmp) o (key e).1
+
+module _ (gs : List EmailGroup) {g : EmailGroup} (is : IsGroup g) (only : IsOnly gs g) where
+  its_rows : of_email (listing gs) (email_key g) ≡ rows g
+  its_rows = picked (email_key g) gs ∙ ap listing only ∙ append-nil (rows g)
+
+  spelled_at : spelling (listing gs) (email_key g) ≡ Some g.old_email
+  spelled_at = ap (λ l. option_map (λ e. e.old_email) (first l)) its_rows ∙ at (rows g) is.says (rows_spelled g)
     where
-      at : (h : EmailGroup) → (email_key g ≡ email_key h → h ≡ g) → (b : Bool)
-          → eq_by_cmp text_cmp (email_key g) (email_key h) ≡ b → AllByRecursion P (rows h)
-      at h is true e =
-          subst (λ h. AllByRecursion P (rows h)) (sym (is (exact_bytes (email_key g) (email_key h)
-          ((Equal-is (text_cmp (email_key g) (email_key h))).0 e)))) here
-      at h is false e =
-          all_weaker (rows h) (λ x same. other x (ap (λ t. eq_by_cmp text_cmp (email_key g) (folded t)) same ∙ e))
-          (rows_spelled h)
-
-  pub spelled_at : spelling (listing gs) (email_key g) ≡ Some g.old_email
-  spelled_at = at (rows g) among.group.says (rows_spelled g) among.alone
-    where
-      p : Mapping → Bool
-      p x = eq_by_cmp text_cmp (email_key g) (folded x.old_email)
-
-      its : AllByRecursion (λ x. p x ≡ true → x.old_email ≡ g.old_email) (listing gs)
-      its =
-          everywhere (λ x. p x ≡ true → x.old_email ≡ g.old_email) (λ x no yes. absurd (true≢false (sym yes ∙ no)))
-          (all_weaker (rows g) (λ x same _. same) (rows_spelled g))
-
-      by : (b : Bool) (s : Text) → spelling (listing gs) (email_key g) ≡ cond b (Some g.old_email) None
-          → spelling (listing gs) (email_key g) ≡ Some s → spelling (listing gs) (email_key g) ≡ Some g.old_email
-      by true s e some = e
-      by false s e some = absurd (cc)
-
       at : (rs : List Mapping) → rs ≢ [] → AllByRecursion (λ r. r.old_email ≡ g.old_email) rs
-          → AllByRecursion (λ e. of_key (listing gs) (key e) ≡ e ∷ []) rs
-          → spelling (listing gs) (email_key g) ≡ Some g.old_email
-      at [] some same only = absurd (some refl)
-      at (r ∷ rs) some same only =
-          let w = speller (listing gs) (key r) (known (listing gs) (key r) ∙ ap (λ l. is_some (first l)) only.0) in
-          by _ w.0.old_email (ap (λ l. option_map (λ x. x.old_email) (first (filter p l)))
-          (filter_all is_accepted (listing gs)
-          (groups_accepted gs)) ∙ first_alike (λ x. x.old_email) p g.old_email (listing gs) its)
-          (ap (λ t. spelling (listing gs) (folded t)) (sym same.0) ∙ w.1)
+          → option_map (λ e. e.old_email) (first rs) ≡ Some g.old_email
+      at [] some same = absurd (some refl)
+      at (r ∷ rs) some same = ap (λ t. Some t) same.0
 
-  no_key : (o : Option Text) → AllByRecursion (λ x. eq_by_cmp key_cmp (email_key g, o) (key x) ≡ false) (rows g)
-      → of_key (listing gs) (email_key g, o) ≡ []
-  no_key o here =
-      picked_none _ (listing gs) (everywhere (λ x. eq_by_cmp key_cmp (email_key g, o) (key x) ≡ false)
-      (λ x no. not_first (text_cmp (email_key g) (folded x.old_email)) (option_cmp text_cmp o (key x).1) no) here)
+  named : (o : Option Text) → of_key (listing gs) (email_key g, o)
+      ≡ filter (has_name o) (own_rows g) ++ filter (has_name o) (map (name_row g.old_email) g.names)
+  named o =
+      let mailed = λ (e : Mapping). eq_by_cmp text_cmp (email_key g) (folded e.old_email) in
+      filter_agree (λ e. eq_by_cmp key_cmp (email_key g, o) (key e)) (λ e. mailed e && has_name o e)
+      (λ e. both_equal (text_cmp (email_key g) (folded e.old_email)) (option_cmp text_cmp o (key e).1))
+      (accepted (listing gs)) ∙ sym (filter-filter (has_name o) mailed (accepted (listing gs)))
+      ∙ ap (filter (has_name o)) its_rows
+      ∙ filter-append (has_name o) (own_rows g) (map (name_row g.old_email) g.names)
 
   -- the fields without an old name
   given_at : given_fields (listing gs) (email_key g) ≡ g.own
   given_at =
-      let here : of_key (listing gs) (email_key g, None) ≡ own_rows g =
-      at (is_some g.own.name || is_some g.own.email) refl (all_head _ (own_rows g) (map (name_row g.old_email) g.names)
-      among.alone) in
-      λ i. record {
-        name = (ap (last_given (λ x. x.new_name)) here ∙ name_of g.own.name g.own.email) i;
-        email =
-            (ap (last_given (λ x. x.new_email)) here ∙ email_of g.own.name g.own.email) i;
-      }
+      let here : of_key (listing gs) (email_key g, None) ≡ own_rows g = named None ∙ ap₂ (λ l m. l ++ m)
+      (filter_all (has_name None) (own_rows g) (own_all (λ e. has_name None e ≡ true) g (λ _. refl)))
+      (filter_none (has_name None) (map (name_row g.old_email) g.names)
+      (all_rows (λ e. has_name None e ≡ false) g.old_email g.names (λ n. refl))) ∙ append-nil (own_rows g) in
+      rw here (own_given g.own)
     where
-      own : Mapping
-      own = mapping_with g.own None g.old_email
+      given : List Mapping → Fields
+      given l = record { name = last_given (λ x. x.new_name) l; email = last_given (λ x. x.new_email) l }
 
-      at : (b : Bool) → (is_some g.own.name || is_some g.own.email) ≡ b
-          → AllByRecursion (λ e. of_key (listing gs) (key e) ≡ e ∷ []) (if b then own ∷ [] else [])
-          → of_key (listing gs) (email_key g, None) ≡ (if b then own ∷ [] else [])
-      at true e only = only.0
-      at false e only =
-          no_key None (all_append _ (own_rows g) (map (name_row g.old_email) g.names) (own_all _ g (λ given. absurd
-          (true≢false (sym given ∙ e)))) (all_rows _ g.old_email g.names (λ n. never (text_cmp (email_key g)
-          (email_key g)) Less refl)))
+      own_given : (f : Fields)
+          → given (if is_some f.name || is_some f.email then mapping_with f None g.old_email ∷ [] else []) ≡ f
+      own_given f = grind arith
 
-      name_of : (a b : Option Text) → last_given (λ x. x.new_name) (if is_some a || is_some b then mapping_with
-          (record { name = a; email = b }) None g.old_email ∷ [] else []) ≡ a
-      name_of None None = refl
-      name_of None (Some b) = refl
-      name_of (Some a) b = refl
-
-      email_of : (a b : Option Text) → last_given (λ x. x.new_email) (if is_some a || is_some b then mapping_with
-          (record { name = a; email = b }) None g.old_email ∷ [] else []) ≡ b
-      email_of None None = refl
-      email_of None (Some b) = refl
-      email_of (Some a) None = refl
-      email_of (Some a) (Some b) = refl
-
-  -- there is no entry for a name that the email doesn't have
-  unnamed_at : (k : Text) → AllByRecursion (λ n. name_key n ≡ k → ⊥) g.names → of_key (listing gs) (email_key g, Some k)
-      ≡ []
-  unnamed_at k other =
-      let e : Text = email_key g in
-      no_key (Some k) (all_append _ (own_rows g) (map (name_row g.old_email) g.names)
-      (own_all _ g (λ _. never (text_cmp e e) Greater refl))
-      (all_mapped (name_row g.old_email) _ g.names (all_weaker g.names (λ n no. never (text_cmp e e)
-      (text_cmp k (name_key n)) (other_text k (name_key n) no)) other)))
-
-  -- the only entry for a name
-  named_at : (j : ℕ) (n : NameGroup) → j < length g.names → n ≡ get_or g.names j n
-      → of_key (listing gs) (email_key g, Some (name_key n)) ≡ name_row g.old_email n ∷ []
-  named_at j n lt read =
-      let P = λ (n : NameGroup). of_key (listing gs) (email_key g, Some (name_key n)) ≡ name_row g.old_email n ∷ [] in
-      subst P (sym read) (all_at P g.names j n (all_map (name_row g.old_email) _ g.names (all_tail _ (own_rows g)
-      (map (name_row g.old_email) g.names) among.alone)) lt)
-
-pub among_at : (gs : List EmailGroup) → AreGroups gs → (i : ℕ) (g : EmailGroup) → i < length gs → g ≡ get_or gs i g
-    → IsAmong gs g
-among_at gs are i g lt read =
-    subst (IsAmong gs) (sym read) (all_at (IsAmong gs) gs i g (all_among gs are) lt)
+  -- the entries for a name
+  named_at : (k : Text) → of_key (listing gs) (email_key g, Some k)
+      ≡ map (name_row g.old_email) (filter (λ n. eq_by_cmp text_cmp k (name_key n)) g.names)
+  named_at k = named (Some k) ∙ ap₂ (λ l m. l ++ m)
+      (filter_none (has_name (Some k)) (own_rows g) (own_all (λ e. has_name (Some k) e ≡ false) g (λ _. refl)))
+      (filter-map (has_name (Some k)) (name_row g.old_email) g.names)
 
 listing_spelled : (gs : List EmailGroup) → AreGroups gs
     → AllByRecursion (λ e. spelling (listing gs) (folded e.old_email) ≡ Some e.old_email) (listing gs)
 listing_spelled gs are =
-    listing_all _ gs (all_weaker gs (λ g among. all_weaker (rows g) (λ r same. ap (λ t. spelling (listing gs)
-    (folded t)) same ∙ spelled_at among ∙ ap (λ t. Some t) (sym same)) (rows_spelled g)) (all_among gs are))
+    listing_all _ gs (all_apply IsGroup (IsOnly gs) _ (λ g is only. all_weaker (rows g) (λ r same. ap (λ t. spelling (listing gs)
+    (folded t)) same ∙ spelled_at gs is only ∙ ap (λ t. Some t) (sym same)) (rows_spelled g)) gs are.each
+    (alone nat_list_cmp_total email_key gs are.ascending))
 
 -- the entries of groups are their own normal list
 pub groups_normal : (gs : List EmailGroup) → AreGroups gs → IsNormal (listing gs) (listing gs)
@@ -359,11 +259,10 @@ groups_normal gs are =
 
 -- the entries of groups are a listing: each old name has a new email
 pub groups_listing : (gs : List EmailGroup) → AreGroups gs → IsListing (listing gs)
-groups_listing gs are =
-    record {
-      own = groups_normal gs are;
-      paired = All-from_recursion IsPaired (listing gs) (listing_all IsPaired gs (every each gs));
-    }
+groups_listing gs are = record {
+  own = groups_normal gs are;
+  paired = All-from_recursion IsPaired (listing gs) (listing_all IsPaired gs (every each gs));
+}
   where
     each : (g : EmailGroup) → AllByRecursion IsPaired (rows g)
     each g = all_append IsPaired (own_rows g) (map (name_row g.old_email) g.names)
@@ -378,21 +277,43 @@ normal_of_groups h gs are alike =
 
 -- ---- the answer to a signature
 
--- the answer if the email and the name are there
-pub scan_name_at : (gs : List EmailGroup) → AreGroups gs → (name email : Text) (i : ℕ) (g : EmailGroup) → i < length gs
-    → g ≡ get_or gs i g → folded g.old_email ≡ folded email
-    → (j : ℕ) (n : NameGroup) → j < length g.names → n ≡ get_or g.names j n → folded n.old_name ≡ folded name
-    → answer_of (listing gs) name email ≡ fields_with_spelling email (name_fields n) (Some g.old_email)
-scan_name_at gs are name email i g lt read same j n lt_name read_name same_name =
-    grind (arith, common_steps, among_at, named_at, spelled_at)
+at_index : {X : Type 0} (P : X → Type 0) (xs : List X) → AllByRecursion P xs → (i : ℕ) (x : X) → i < length xs
+    → x ≡ get_or xs i x → P x
+at_index P xs all i x lt read = subst P (sym read) (All-from_recursion P xs all i x lt)
 
--- the answer if the email is there, but not the name
-pub scan_own_at : (gs : List EmailGroup) → AreGroups gs → (name email : Text) (i : ℕ) (g : EmailGroup) → i < length gs
-    → g ≡ get_or gs i g → folded g.old_email ≡ folded email
-    → AllByRecursion (λ n. name_key n ≡ folded name → ⊥) g.names
-    → answer_of (listing gs) name email ≡ fields_with_spelling email g.own (Some g.old_email)
-scan_own_at gs are name email i g lt read same other =
-    grind (arith, common_steps, among_at, unnamed_at, given_at, spelled_at)
+module _ (gs : List EmailGroup) (are : AreGroups gs) (name email : Text) (i : ℕ) (g : EmailGroup) (lt : i < length gs)
+    (read : g ≡ get_or gs i g) (same : folded g.old_email ≡ folded email) where
+  is : IsGroup g
+  is = at_index IsGroup gs are.each i g lt read
+
+  only : IsOnly gs g
+  only = at_index (IsOnly gs) gs (alone nat_list_cmp_total email_key gs are.ascending) i g lt read
+
+  -- by the names of the email that are equal to the given one
+  answer_at : (ns : List NameGroup) → filter (λ n. eq_by_cmp text_cmp (folded name) (name_key n)) g.names ≡ ns
+      → answer_of (listing gs) name email ≡ fields_with_spelling email
+      (unwrap_or (option_map new_fields (last (map (name_row g.old_email) ns))) g.own) (Some g.old_email)
+  answer_at ns these =
+      let keyed = ap (λ t. of_key (listing gs) (t, Some (folded name))) (sym same) ∙ named_at gs is only (folded name)
+      ∙ ap (map (name_row g.old_email)) these in
+      let given = ap (given_fields (listing gs)) (sym same) ∙ given_at gs is only in
+      let spelled = ap (spelling (listing gs)) (sym same) ∙ spelled_at gs is only in
+      λ j. fields_with_spelling email (unwrap_or (option_map new_fields (last (keyed j))) (given j)) (spelled j)
+
+  -- if the name is there
+  pub scan_name_at : (j : ℕ) (n : NameGroup) → j < length g.names → n ≡ get_or g.names j n
+      → folded n.old_name ≡ folded name
+      → answer_of (listing gs) name email ≡ fields_with_spelling email (name_fields n) (Some g.old_email)
+  scan_name_at j n lt_name read_name same_name =
+      answer_at (n ∷ []) (ap (λ t. filter (λ n. eq_by_cmp text_cmp t (name_key n)) g.names) (sym same_name)
+      ∙ at_index (λ n. filter (λ m. eq_by_cmp text_cmp (name_key n) (name_key m)) g.names ≡ n ∷ []) g.names
+      (alone nat_list_cmp_total name_key g.names is.ascending) j n lt_name read_name)
+
+  -- if it isn't
+  pub scan_own_at : AllByRecursion (λ n. name_key n ≡ folded name → ⊥) g.names
+      → answer_of (listing gs) name email ≡ fields_with_spelling email g.own (Some g.old_email)
+  scan_own_at other = answer_at [] (filter_none _ g.names (all_weaker g.names
+      (λ n no. other_text (folded name) (name_key n) no) other))
 
 -- the answer if the email isn't there
 pub scan_missing : (gs : List EmailGroup) (name email : Text) → AllByRecursion (λ g. email_key g ≡ folded email → ⊥) gs
@@ -400,25 +321,24 @@ pub scan_missing : (gs : List EmailGroup) (name email : Text) → AllByRecursion
 scan_missing gs name email other =
     let f : Fields = unwrap_or (last_fields (listing gs) (folded email, Some (folded name))) (given_fields (listing gs)
     (folded email)) in
-    ap (λ l. fields_with_spelling email f (option_map (λ e. e.old_email) (first l)))
-    (picked_none (λ x. eq_by_cmp text_cmp (folded email) (folded x.old_email)) (listing gs)
-    (not_mailed (folded email) gs other))
+    ap (λ l. fields_with_spelling email f (option_map (λ e. e.old_email) (first l))) (picked (folded email) gs
+    ∙ ap listing (filter_none _ gs (all_weaker gs (λ g no. other_text (folded email) (email_key g) no) other)))
 
 -- ---- elements that no search finds
 
 -- if a search finds no index, no element has the key
-pub none_has : {X : Type 0} (f : X → Text) (k : Text) (xs : List X) (i : ℕ) → AllWithin (λ x. text_cmp (f x) k ≡ Less)
-    xs 0 i → AllWithin (λ x. text_cmp (f x) k ≡ Greater) xs i (length xs) → AllByRecursion (λ x. f x ≡ k → ⊥) xs
-none_has f k xs i low high = grind (arith, common_steps, recursion_from_All, cases_lt, tied_itself, nat_list_cmp_total)
+pub none_has : {X : Type 0} (f : X → Text) (k : Text) (xs : List X) (i : ℕ) → i ≤ length xs → IsMissing f k xs i
+    → AllByRecursion (λ x. f x ≡ k → ⊥) xs
+none_has f k xs i le missing =
+    let low = missing-below text_cmp f k xs i le missing in
+    let high = missing-above text_cmp f k xs i missing in
+    grind (arith, common_steps, recursion_from_All, cases_lt, tied_itself, nat_list_cmp_total)
 
--- ---- empty tables are those of a snapshot
+-- ---- empty tables
 
 pub no_groups : AreGroups []
 unfolding IsStrictlySortedBy
 no_groups = record { ascending = tt; each = tt }
-
-pub complete_empty : IsComplete (record { pool = []; groups = []; unassigned_names = [] })
-complete_empty = record { groups = no_groups; none_unassigned = refl }
 
 -- ---- the entries of a listing that are left, step by step
 
@@ -430,11 +350,5 @@ module _ (t : Contents) (email : Text) (ns : List RowTexts) (i : ℕ) (none : ns
   next_email r rest read =
       let g : EmailGroup = group_of t.pool r rest in
       let lt : i < length t.groups = slice_get_within t.groups i g read in
-      ap (λ l. left_to_list t email l i) none
-      ∙ ap listing (drop_more t.groups i g lt)
-      ∙ ap (λ x. listing (x ∷ drop (i + 1) t.groups)) (get_or_from_slice_get t.groups i g g read)
-      ∙ append_assoc (own_rows g) (map (name_row g.old_email) g.names) (listing (drop (i + 1) t.groups))
-
-pub empty : {X : Type 0} (xs : List X) → nat_eq (length xs) 0 ≡ true → xs ≡ []
-empty [] e = refl
-empty (x ∷ xs) e = let none : length (x ∷ xs) ≡ 0 = eqb-true _ _ e in absurd (omega arith)
+      rw (none, drop_more t.groups i g lt, get_or_from_slice_get t.groups i g g read)
+      (append_assoc (own_rows g) (map (name_row g.old_email) g.names) (listing (drop (i + 1) t.groups)))

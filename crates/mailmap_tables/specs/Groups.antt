@@ -1,12 +1,17 @@
 -- A normal list grouped by email: what the tables of a snapshot represent.
-use Rattle.std.specs.Prelude.{◌≡◌, ◌≢◌, ◌+◌, ◌||◌, ◌++◌, ℕ, if◌then◌else◌, is_some, Some, None, List, [], ◌∷◌}
+use Rattle.std.specs.Prelude.{◌≢◌, ◌+◌, ◌||◌, ◌++◌, ℕ, if◌then◌else◌, is_some, Option, Some, None, List, [], ◌∷◌}
 use Rattle.std.specs.Prelude.{length, map, sum_by}
 use Rattle.std.specs.List.{AllByRecursion, flat_map}
 use Rattle.std.specs.List.Sorted.{IsStrictlySortedBy}
 use Rattle.mailmap_entries.specs.Entries.{Mapping}
 use Rattle.mailmap_entries.specs.Folding.{Text, folded, text_cmp}
 use Rattle.mailmap_entries.specs.Semantics.{Fields, mapping_with}
-use Rattle.mailmap_batches.specs.Given.{NameGroup}
+
+-- an old name as it is stored, and the fields that replace it and its email
+pub record NameGroup : Type 0 where
+  pub old_name : Text
+  pub new_name : Option Text
+  pub new_email : Text
 
 -- an old email as it is stored, the new fields for all other names, and the old names of the email
 pub record EmailGroup : Type 0 where
@@ -47,17 +52,11 @@ pub record AreGroups (gs : List EmailGroup) : Type 0 where
   pub ascending : IsStrictlySortedBy text_cmp (map email_key gs)
   pub each : AllByRecursion IsGroup gs
 
--- what tables hold: the bytes of their texts, the emails, and names that belong to no email yet
+-- what tables hold: the bytes of their texts, and the emails
 pub record Contents : Type 0 where
   pub pool : Text
   pub groups : List EmailGroup
-  pub unassigned_names : List NameGroup
 
 -- the number of emails and names
 abbrev pub row_count : Contents → ℕ
-row_count t = length t.groups + (sum_by (λ g. length g.names) t.groups + length t.unassigned_names)
-
--- the tables of a snapshot: every name belongs to an email, and the emails are groups
-pub record IsComplete (t : Contents) : Type 0 where
-  pub groups : AreGroups t.groups
-  pub none_unassigned : t.unassigned_names ≡ []
+row_count t = length t.groups + sum_by (λ g. length g.names) t.groups

@@ -1,19 +1,18 @@
--- The index of a key in a list with strictly ascending keys.
-use Rattle.std.specs.Prelude.{◌≡◌, ◌<◌, ◌≤◌, ℕ, List, length, map, Some, slice_get}
-use Rattle.std.specs.List.{AllWithin}
-use Rattle.std.specs.declared.cmp.Ordering.TheVariants.{Less, Greater}
+-- The index of a key in a list with strictly ascending keys, by the answers of a search.
+use Rattle.std.specs.Prelude.{◌≡◌, ℕ, List, map, Some, slice_get}
+use Rattle.std.specs.List.Sorted.{IsPartitionPoint}
+use Rattle.std.specs.declared.cmp.Ordering.{Ordering}
+use Rattle.std.specs.declared.cmp.Ordering.TheVariants.{Less, Equal, Greater}
 use Rattle.mailmap_entries.specs.Folding.{Text, text_cmp}
 
--- the key at the index is k, and all keys from `start` up to the index are smaller
-pub record IsFound {X : Type 0} (f : X → Text) (k : Text) (start : ℕ) (xs : List X) (i : ℕ) : Type 0 where
-  pub after_start : start ≤ i
-  pub within : i < length xs
-  pub below : AllWithin (λ x. text_cmp (f x) k ≡ Less) xs start i
-  pub key : slice_get (map f xs) i ≡ Some k
+-- each key, compared to k
+abbrev pub compared : {X : Type 0} → (X → Text) → Text → List X → List Ordering
+compared f k xs = map (λ x. text_cmp (f x) k) xs
 
--- k could be inserted at the index: all keys from `start` up to it are smaller than k, and all from it on are larger
-pub record IsMissing {X : Type 0} (f : X → Text) (k : Text) (start : ℕ) (xs : List X) (i : ℕ) : Type 0 where
-  pub after_start : start ≤ i
-  pub within : i ≤ length xs
-  pub below : AllWithin (λ x. text_cmp (f x) k ≡ Less) xs start i
-  pub above : AllWithin (λ x. text_cmp (f x) k ≡ Greater) xs i (length xs)
+-- the key at the index is k
+abbrev pub IsFound : {X : Type 0} → (X → Text) → Text → List X → ℕ → Type 0
+IsFound f k xs i = slice_get (compared f k xs) i ≡ Some Equal
+
+-- k could be inserted at the index: all keys before it are smaller than k, and all from it on are larger
+abbrev pub IsMissing : {X : Type 0} → (X → Text) → Text → List X → ℕ → Type 0
+IsMissing f k xs i = IsPartitionPoint (λ a. a ≡ Less) (λ a. a ≡ Greater) (compared f k xs) i

@@ -2,12 +2,8 @@ pub use Rattle.mailmap_entries.specs.Folding
 pub use Rattle.mailmap_entries.specs.Entries
 pub use Rattle.mailmap_entries.specs.Search
 pub use Rattle.mailmap_entries.specs.Prefixes
-pub use Rattle.mailmap_batches.specs.Given
 pub mod Groups
 pub mod RowTexts
 pub mod Pool
 pub mod KeySearch
-pub mod Merging
-pub mod Remaining
-pub mod Reserved
-pub mod Collecting
+pub mod Put

@@ -1,15 +1,17 @@
 -- Texts in a pool of bytes, and tables whose rows say where their texts are in it.
-use Rattle.std.specs.Prelude.{◌≡◌, ◌≤◌, ◌+◌, ◌-◌, ℕ, List, [], ◌∷◌, Option, map, take, drop, length, unwrap_or, IsOk}
-use Rattle.std.specs.Prelude.{IsSome}
-use Rattle.std.specs.Prelude.{Result, Vec, vec_capacity, vec_len}
+use Rattle.std.specs.Prelude.{◌≡◌, ◌<◌, ◌≤◌, ◌+◌, ◌^◌, ◌++◌, ℕ, List, [], Option, Some, None, IsSome, map, take, drop}
+use Rattle.std.specs.Prelude.{length, slice_set, sum_by, unwrap_or}
 use Rattle.std.specs.Option.{option_map, ForSome}
 use Rattle.std.specs.List.{AllByRecursion}
 use Rattle.mailmap_entries.specs.Folding.{Text, folded}
 use Rattle.mailmap_entries.specs.Prefixes.{key_prefix}
 use Rattle.mailmap_entries.specs.Semantics.{Fields}
-use Rattle.mailmap_batches.specs.Given.{NameGroup, given_or}
-use Rattle.mailmap_tables.specs.Groups.{EmailGroup, Contents}
+use Rattle.mailmap_entries.specs.Entries.{Mapping}
+use Rattle.mailmap_tables.specs.Groups.{Contents, EmailGroup, NameGroup, listing, name_row}
 use Rattle.mailmap_tables.specs.RowTexts.{old_span, name_span, email_span}
+use Rattle.mailmap_tables.specs.declared.texts.TheConstants.{NO_TEXT}
+use Rattle.mailmap_tables.specs.declared.texts.Source.{Source}
+use Rattle.mailmap_tables.specs.declared.texts.Source.TheVariants.{Given, Pool}
 use Rattle.mailmap_tables.specs.declared.texts.Span.{Span}
 use Rattle.mailmap_tables.specs.declared.texts.RowTexts.{RowTexts}
 use Rattle.mailmap_tables.specs.declared.rows.EmailRow.{EmailRow}
@@ -45,35 +47,6 @@ group_of pool t names = record {
   names = map (name_group pool) names;
 }
 
--- the bytes at a span, none without a span
-abbrev pub bytes_of : Text → Option Span → Text
-bytes_of pool o = unwrap_or (option_map (spelled pool) o) []
-
--- the row t has the same texts in the pool `new` as three spans have in the pool `old`
-pub record RowSpells (old new : Text) (old_text : Span) (new_name new_email : Option Span) (t : RowTexts) : Type 0 where
-  pub old_same : spelled new (old_span t) ≡ spelled old old_text
-  pub fields : fields_of new t
-      ≡ record { name = option_map (spelled old) new_name; email = option_map (spelled old) new_email }
-
--- the row `own` has the same old email as the row `existing`, and its fields overridden by those given, in a pool that
--- may have grown
-pub record OwnSpells (old new : Text) (existing : RowTexts) (given : Fields) (own : RowTexts) : Type 0 where
-  pub old_same : spelled new (old_span own) ≡ spelled old (old_span existing)
-  pub fields : fields_of new own ≡ given_or given (fields_of old existing)
-
--- the pool grows by at most n bytes, and if there is capacity for them, the call succeeds
-pub record GrowsBy {Z T E : Type 0} (n : ℕ) (old new : Vec ℕ Z) (result : Result T E) : Type 0 where
-  pub bytes : length new.items ≤ length old.items + n
-  pub capacity : vec_capacity old ≤ vec_capacity new
-  pub succeeds : vec_len old + n ≤ vec_capacity old → IsOk result
-
--- the names of an email, which are a range in the table of names
-abbrev pub names_of : List RowTexts → EmailRow → List RowTexts
-names_of names r = take (r.names_end - r.names_start) (drop r.names_start names)
-
-abbrev pub email_group : Text → List RowTexts → EmailRow → EmailGroup
-email_group pool names r = group_of pool r.texts (names_of names r)
-
 -- the texts of a row lie within a pool of n bytes
 pub record TextsInPool (n : ℕ) (t : RowTexts) : Type 0 where
   pub old : LiesIn n (old_span t)
@@ -85,38 +58,79 @@ pub record NameInPool (n : ℕ) (t : RowTexts) : Type 0 where
   pub texts : TextsInPool n t
   pub new_email : IsSome (email_span t)
 
-abbrev pub EmailInPool : ℕ → EmailRow → Type 0
-EmailInPool n r = TextsInPool n r.texts
-
--- each email's range of names begins where the one before it ends, the first range begins at k, and none ends after n
-abbrev pub Follow : ℕ → ℕ → List EmailRow → Type 0
-Follow k n [] = k ≤ n
-Follow k n (r ∷ rs) = (r.names_start ≡ k) × (k ≤ r.names_end) × Follow r.names_end n rs
-
--- the end of the last range, if the first begins at k
-abbrev pub end_of : ℕ → List EmailRow → ℕ
-end_of k [] = k
-end_of k (r ∷ rs) = end_of r.names_end rs
-
--- the key prefix of an email
-abbrev pub prefix_of : Text → EmailRow → ℕ
-prefix_of pool r = key_prefix 16 (folded (spelled pool (old_span r.texts)))
-
-pub record AreTables (pool : Text) (names : List RowTexts) (emails : List EmailRow) (prefixes : List ℕ) : Type 0 where
-  pub names_lie : AllByRecursion (NameInPool (length pool)) names
-  pub emails_lie : AllByRecursion (EmailInPool (length pool)) emails
-  pub ranges : Follow 0 (length names) emails
-  pub prefix_each : prefixes ≡ map (prefix_of pool) emails
-
-abbrev pub contents : Text → List RowTexts → List EmailRow → Contents
-contents pool names emails =
-    record {
-      pool = pool;
-      groups = map (email_group pool names) emails;
-      unassigned_names = map (name_group pool) (drop (end_of 0 emails) names);
-    }
-
 -- the texts of an email's row and of its names lie within the pool
 pub record RowsInPool (pool : Text) (t : RowTexts) (ns : List RowTexts) : Type 0 where
   pub email_lies : TextsInPool (length pool) t
   pub names_lie : AllByRecursion (NameInPool (length pool)) ns
+
+-- the texts of an email and the rows of its names, wherever these are in memory
+pub record Row : Type 0 where
+  pub texts : RowTexts
+  pub names : List RowTexts
+
+abbrev pub row_of : EmailRow → Row
+row_of e = record { texts = e.texts; names = e.names.items }
+
+abbrev pub rows_of : List EmailRow → List Row
+rows_of es = map row_of es
+
+abbrev pub row_group : Text → Row → EmailGroup
+row_group pool r = group_of pool r.texts r.names
+
+abbrev pub RowInPool : Text → Row → Type 0
+RowInPool pool r = RowsInPool pool r.texts r.names
+
+-- the key prefix of an email
+abbrev pub prefix_of : Text → Row → ℕ
+prefix_of pool r = key_prefix 16 (folded (spelled pool (old_span r.texts)))
+
+-- the number of names of all emails
+abbrev pub name_total : List Row → ℕ
+name_total rows = sum_by (λ r. length r.names) rows
+
+pub record AreTables (pool : Text) (rows : List Row) (prefixes : List ℕ) (name_count : ℕ) : Type 0 where
+  pub lie : AllByRecursion (RowInPool pool) rows
+  pub prefix_each : prefixes ≡ map (prefix_of pool) rows
+  pub counted : name_count ≡ name_total rows
+  pub few : name_count < 2 ^ 63
+
+abbrev pub contents : Text → List Row → Contents
+contents pool rows = record { pool = pool; groups = map (row_group pool) rows }
+
+-- ---- new rows
+
+-- the pool has only grown at its end
+abbrev pub Extends : Text → Text → Type 0
+Extends old new = (more : Text) × (new ≡ old ++ more)
+
+-- a text of the pool lies within its n bytes
+abbrev pub IsWithin : ℕ → Source → Type 0
+IsWithin n (Given t) = Unit {0}
+IsWithin n (Pool s) = LiesIn n s
+
+abbrev pub text_of : Text → Source → Text
+text_of pool (Given t) = t.now
+text_of pool (Pool s) = spelled pool s
+
+-- the length that a row stores for a text
+abbrev pub stored_len : Option Text → ℕ
+stored_len None = NO_TEXT
+stored_len (Some t) = length t
+
+-- a row with these texts, which lie in the pool
+pub record IsRow (pool : Text) (old : Text) (fields : Fields) (t : RowTexts) : Type 0 where
+  pub lies : TextsInPool (length pool) t
+  pub old_is : spelled pool (old_span t) ≡ old
+  pub fields_are : fields_of pool t ≡ fields
+
+-- ---- changes of rows
+
+-- with the email at an index replaced
+abbrev pub with_email_at : Contents → ℕ → EmailGroup → Contents
+with_email_at c index g = record c { groups = slice_set c.groups index g }
+
+-- ---- a listing, step by step
+
+-- the given names of one email, followed by all entries of the emails from an index on
+abbrev pub left_to_list : Contents → Text → List RowTexts → ℕ → List Mapping
+left_to_list t email names index = map (name_row email) (map (name_group t.pool) names) ++ listing (drop index t.groups)

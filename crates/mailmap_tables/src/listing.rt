@@ -5,14 +5,13 @@ ghost use Rattle.std.specs.List.{AllByRecursion};
 ghost use Rattle.std.specs.Option.{option_to_list};
 ghost use Rattle.mailmap_entries.specs.Entries.{mapping_of};
 ghost use Rattle.mailmap_tables.specs.Groups.{listing, name_row, own_rows};
-ghost use Rattle.mailmap_tables.specs.Remaining.{left_to_list};
-ghost use Rattle.mailmap_tables.specs.Pool.{NameInPool, TextsInPool, group_of, name_group, spelled};
+ghost use Rattle.mailmap_tables.specs.Pool.{NameInPool, TextsInPool, group_of, left_to_list, name_group, spelled};
 ghost use Rattle.mailmap_tables.specs.RowTexts.{old_span};
 
 use crate::rows::NameRow;
 use crate::texts::RowTexts;
 use crate::view::View;
-use mailmap_entries::Entry;
+use mailmap_entries::{Entry, entry_of};
 use std::marker::Model;
 
 /// An iterator over the entries of a snapshot, in ascending order of their keys.
@@ -34,8 +33,7 @@ impl<'a> Model for Iter<'a> {
 
     ghost Value = { List Mapping };
 
-    ghost use Rattle.mailmap_tables.specs.Remaining.{left_to_list};
-    ghost use Rattle.mailmap_tables.specs.Pool.{NameInPool};
+    ghost use Rattle.mailmap_tables.specs.Pool.{NameInPool, left_to_list};
 
     ghost view = { λ s. left_to_list s.tables s.old_email.now s.names.now s.reached };
 
@@ -85,17 +83,12 @@ fn own_entry<'a>(tables: &View<'a>, old_email: &'a [u8], texts: RowTexts) -> Opt
     ensures { option_to_list (option_map mapping_of result) ≡ own_rows (group_of tables.now.pool texts []) }
 {
     let (new_name, new_email) = tables.fields(texts);
-    match (
-        tables.optional_text(new_name),
-        tables.optional_text(new_email),
-    ) {
-        (None, None) => None,
-        (Some(new_name), None) => Some(Entry::change_name_by_email(new_name, old_email)),
-        (None, Some(new_email)) => Some(Entry::change_email_by_email(new_email, old_email)),
-        (Some(new_name), Some(new_email)) => Some(Entry::change_name_and_email_by_email(
-            new_name, new_email, old_email,
-        )),
+    let new_name = tables.optional_text(new_name);
+    let new_email = tables.optional_text(new_email);
+    if new_name.is_none() && new_email.is_none() {
+        return None;
     }
+    Some(entry_of(new_name, new_email, None, old_email))
 }
 
 // The entry of one of an email's names.
@@ -105,11 +98,7 @@ fn name_entry<'a>(tables: &View<'a>, old_email: &'a [u8], row: &NameRow) -> Entr
 {
     let old_name = tables.text(row.old());
     let (new_name, new_email) = tables.fields(*row);
-    let new_email = tables.optional_text(new_email).unwrap_or(&[]);
-    match tables.optional_text(new_name) {
-        Some(new_name) => Entry::change_name_and_email_by_name_and_email(
-            new_name, new_email, old_name, old_email,
-        ),
-        None => Entry::change_email_by_name_and_email(new_email, old_name, old_email),
-    }
+    let new_name = tables.optional_text(new_name);
+    let new_email = tables.optional_text(new_email);
+    entry_of(new_name, new_email, Some(old_name), old_email)
 }

@@ -1,34 +1,42 @@
 //! Merges entries into tables.
-ghost use Rattle.std.specs.Prelude.{◌≡◌, ◌≢◌, ◌++◌, [], List, None, OnErr, OnOk, map};
-ghost use Rattle.std.specs.Option.{ForSome};
+ghost use Rattle.std.specs.Prelude.{◌≡◌, ◌≢◌, ◌++◌, ◌∷◌, [], All, List, IfOk, None, OnErr, OnOk, length, map};
+ghost use Rattle.std.specs.Prelude.{◌<◌, ◌≤◌, take, true};
 ghost use Rattle.std.specs.Iterator.{IsFinite, Drains, Yields};
+ghost use Rattle.mailmap_entries.specs.Alike.{Alike};
 ghost use Rattle.mailmap_entries.specs.Entries.{mapping_of};
+ghost use Rattle.mailmap_entries.specs.Folding.{Text};
 ghost use Rattle.mailmap_entries.specs.declared.entry.Entry.{Entry as Item};
-ghost use Rattle.mailmap_entries.specs.Semantics.{IsNormal, accepted};
-ghost use Rattle.mailmap_tables.specs.Groups.{AreGroups, IsComplete, listing};
-ghost use Rattle.mailmap_tables.specs.Reserved.{HasReserved};
+ghost use Rattle.mailmap_entries.specs.Semantics.{IsNormal, accepted, is_accepted};
+ghost use Rattle.mailmap_batches.specs.Batches.{mapping_at};
+ghost use Rattle.mailmap_tables.specs.Groups.{AreGroups, listing};
+ghost use Rattle.mailmap_tables.specs.Put.{AreAccepted, with_email};
 
-use crate::chunks::{Collected, accepted_of};
-use crate::fits::bytes_in_place;
-use crate::in_place::merge_in_place;
+use crate::listing::Iter;
 use crate::tables::Tables;
-use mailmap_entries::Entry;
-use std::alloc::AllocError;
+use mailmap_batches::batch::sorted;
+use mailmap_batches::groups::{earliest, email_group_len};
+use mailmap_batches::indexed::IndexedEntry;
+use mailmap_entries::{Entry, entry_of};
+use std::alloc::{AllocError, Global};
+
+// With more entries, moving the rows of large tables for each entry costs more than building new tables.
+const MOST_ONE_BY_ONE: usize = 16;
 
 impl Tables {
-    /// Appends the accepted entries of an iterator to those that the tables represent. A few entries are merged in
-    /// place, after all memory for them is reserved. For more, new tables are built and then replace these; very many
-    /// are joined with them in chunks. Whichever it is, the tables stay as they were if memory runs out.
+    /// Appends the accepted entries of an iterator to those that the tables represent. One entry is put into the
+    /// tables, for programs that add entries one by one. For more, a changed copy or new tables replace these. If
+    /// memory runs out, the entries of the tables stay as they were.
     pub fn merge<'a, I: Iterator<Item = Entry<'a>> + Drop>(
         &mut self,
         entries: I,
     ) -> Result<(), AllocError>
         requires can { I.can_next entries }
         requires finite { IsFinite (I.remaining entries) }
-        requires complete { IsComplete self.old }
+        requires groups { AreGroups self.old.groups }
+        ensures groups { AreGroups self.new.groups }
         ensures ok { OnOk result ((xs : List Item) × Drains I.next_gives entries xs
-            × IsComplete self.new × IsNormal (listing self.old.groups ++ map mapping_of xs) (listing self.new.groups)) }
-        ensures err { OnErr result (self.new ≡ self.old) }
+            × IsNormal (listing self.old.groups ++ map mapping_of xs) (listing self.new.groups)) }
+        ensures err { OnErr result (self.new.groups ≡ self.old.groups) }
 
         // out of memory is reported only after an entry was accepted
         ensures out_of_memory { OnErr result
@@ -36,19 +44,212 @@ impl Tables {
             × (accepted (map mapping_of xs) ≢ [])) }
     {
         let alloc = self.allocator();
-        let collected = accepted_of(alloc, self, entries)?;
-        // There was no entry, or the last one ended a chunk.
-        if collected.batch.is_empty() {
-            collected.replace_tables(self);
+        let batch = accepted_of(alloc, entries)?;
+        if batch.is_empty() {
             return Ok(());
         }
-        // After a chunk there are new tables already, and these stay as they are until the end.
-        if collected.joined.is_none() {
-            if let Some(bytes) = bytes_in_place(self, &collected.batch) {
-                return merge_in_place(alloc, self, &collected.batch, bytes);
-            }
+        if let [entry] = batch.as_slice() {
+            self.put(entry.old_email(), entry)?;
+        } else {
+            *self = joined(alloc, self, batch)?;
         }
-        *self = collected.tables(self)?;
+        self.drop_unused();
         Ok(())
     }
+
+    // Rebuilds the tables if the pool has become more than twice as long as it was when they were built. Otherwise
+    // merges that replace texts would let it grow without bound. Without memory for that, the tables stay as they are.
+    fn drop_unused(&mut self)
+        requires { AreGroups self.old.groups }
+        ensures groups { AreGroups self.new.groups }
+        ensures same { listing self.new.groups ≡ listing self.old.groups }
+    {
+        if self.is_twice_as_built() {
+            let alloc = self.allocator();
+            if let Ok(rebuilt) = rebuilt(alloc, self) {
+                *self = rebuilt;
+            }
+        }
+    }
+}
+
+// The accepted entries of an iterator.
+fn accepted_of<'a, I: Iterator<Item = Entry<'a>> + Drop>(
+    alloc: Global,
+    entries: I,
+) -> Result<Vec<Entry<'a>>, AllocError>
+    requires can { I.can_next entries }
+    requires finite { IsFinite (I.remaining entries) }
+    ensures ok { IfOk result (λ batch. (xs : List Item) × Drains I.next_gives entries xs
+        × (map mapping_of batch.items ≡ accepted (map mapping_of xs))) }
+
+    // out of memory is reported only after an entry was accepted
+    ensures out_of_memory { OnErr result
+        ((xs : List Item) × (rest : I) × Yields I.next_gives entries xs rest × (accepted (map mapping_of xs) ≢ [])) }
+{
+    let mut batch = Vec::new(alloc);
+    for entry in entries {
+        if has_new_name_or_email(&entry) {
+            batch.push(entry)?;
+        }
+    }
+    Ok(batch)
+}
+
+// Whether the entry is accepted, which means that it changes something.
+fn has_new_name_or_email(entry: &Entry) -> bool
+    ensures { result ≡ is_accepted (mapping_of entry.now) }
+{
+    entry.new_name().is_some() || entry.new_email().is_some()
+}
+
+// New tables with these entries after those of the existing ones.
+fn joined<'a>(
+    alloc: Global,
+    existing_tables: &'a Tables,
+    entries: Vec<Entry<'a>>,
+) -> Result<Tables, AllocError>
+    requires groups { AreGroups existing_tables.now.groups }
+    requires accepted { AreAccepted (map mapping_of entries.items) }
+    ensures { IfOk result (λ made. AreGroups made.groups
+        × IsNormal (listing existing_tables.now.groups ++ map mapping_of entries.entry.items) (listing made.groups)) }
+{
+    let rows = existing_tables.view().row_count();
+    if rows == 0 {
+        return built(alloc, &entries);
+    }
+    if entries.len() <= MOST_ONE_BY_ONE.min(rows) {
+        return put_each(existing_tables.try_clone(alloc)?, &entries);
+    }
+    let mut all = listed(alloc, existing_tables)?;
+    all.extend_from_slice(&entries)?;
+    drop(entries);
+    built(alloc, &all)
+}
+
+// Tables with the same listing, and a pool without unused bytes.
+fn rebuilt(alloc: Global, tables: &Tables) -> Result<Tables, AllocError>
+    requires { AreGroups tables.now.groups }
+    ensures { IfOk result (λ made. AreGroups made.groups × (listing made.groups ≡ listing tables.now.groups)) }
+{
+    built(alloc, &listed(alloc, tables)?)
+}
+
+fn listed(alloc: Global, tables: &Tables) -> Result<Vec<Entry<'_>>, AllocError>
+    ensures { IfOk result (λ v. map mapping_of v.items ≡ listing tables.now.groups) }
+{
+    Iter::new(tables.view()).collect(alloc)
+}
+
+// Tables of these entries.
+fn built(alloc: Global, entries: &[Entry<'_>]) -> Result<Tables, AllocError>
+    requires { AreAccepted (map mapping_of entries.now) }
+    ensures { IfOk result
+        (λ made. AreGroups made.groups × IsNormal (map mapping_of entries.now) (listing made.groups)) }
+{
+    let batch = sorted(alloc, entries)?;
+    let mut tables = Tables::with_capacity(alloc, batch.len(), texts_len(entries))?;
+    let mut left = batch.as_slice();
+    while !left.is_empty() {
+        let len = email_group_len(left);
+        let (group, rest) = (&left[..len], &left[len..]);
+        put_group(&mut tables, earliest(group).entry.old_email(), group)?;
+        left = rest;
+    }
+    Ok(tables.built())
+}
+
+// The number of bytes in the texts of entries, at most `usize::MAX`.
+fn texts_len(entries: &[Entry<'_>]) -> usize {
+    let mut len: usize = 0;
+    for entry in entries {
+        len = len.saturating_add(entry_len(entry));
+    }
+    len
+}
+
+fn entry_len(entry: &Entry<'_>) -> usize {
+    let (name, email) = (
+        entry.new_name().unwrap_or(&[]),
+        entry.new_email().unwrap_or(&[]),
+    );
+    let new_len = name.len().saturating_add(email.len());
+    let old_name = entry.old_name().unwrap_or(&[]);
+    let old_len = old_name.len().saturating_add(entry.old_email().len());
+    new_len.saturating_add(old_len)
+}
+
+// Puts the entries for one email into tables, with this spelling of it.
+fn put_group(
+    tables: &mut Tables,
+    email: &[u8],
+    group: &[IndexedEntry<'_, '_>],
+) -> Result<(), AllocError>
+    requires groups { AreGroups tables.old.groups }
+    requires some { 0 < length group.now }
+    requires accepted { All (λ p. is_accepted (mapping_at p) ≡ true) group.now }
+    ensures { OnOk result (AreGroups tables.new.groups
+        × IsNormal (listing tables.old.groups ++ map (λ p. with_email email.now (mapping_at p)) group.now)
+        (listing tables.new.groups)) }
+{
+    if let [only] = group {
+        tables.put(email, only.entry)?;
+        return Ok(());
+    }
+    let (start, count) = combined_start(group);
+    let index = tables.put(email, &start)?;
+    for i in count..group.len() {
+        tables.put_at(index, email, group[i].entry)?;
+    }
+    Ok(())
+}
+
+// One entry for those without an old name, which come first, and their number. If there are none, the first entry. So
+// the texts that many lines for an email leave as they are aren't copied for each line.
+fn combined_start<'a>(group: &[IndexedEntry<'_, 'a>]) -> (Entry<'a>, usize)
+    requires some { 0 < length group.now }
+    requires accepted { All (λ p. is_accepted (mapping_at p) ≡ true) group.now }
+    ensures some { 0 < result.1 }
+    ensures within { result.1 ≤ length group.now }
+    ensures accepted { is_accepted (mapping_of result.0) ≡ true }
+    ensures alike { (email : Text) → Alike (map (λ p. with_email email (mapping_at p)) (take result.1 group.now))
+        (with_email email (mapping_of result.0) ∷ []) }
+{
+    let mut start = *group[0].entry;
+    for i in 1..group.len() {
+        let next = group[i].entry;
+        if start.old_name().is_some() || next.old_name().is_some() {
+            return (start, i);
+        }
+        start = combined(&start, next);
+    }
+    (start, group.len())
+}
+
+// Two entries without an old name as one: what the second doesn't give, the first does.
+fn combined<'a>(first: &Entry<'a>, second: &Entry<'a>) -> Entry<'a>
+    requires accepted { AreAccepted (mapping_of first.now ∷ mapping_of second.now ∷ []) }
+    requires first_unnamed { (mapping_of first.now).old_name ≡ None }
+    requires second_unnamed { (mapping_of second.now).old_name ≡ None }
+    ensures accepted { is_accepted (mapping_of result) ≡ true }
+    ensures alike { (email : Text) → Alike
+        (with_email email (mapping_of first.now) ∷ with_email email (mapping_of second.now) ∷ [])
+        (with_email email (mapping_of result) ∷ []) }
+{
+    let name = second.new_name().or(first.new_name());
+    let email = second.new_email().or(first.new_email());
+    entry_of(name, email, None, second.old_email())
+}
+
+// The tables with these entries after those that they have.
+fn put_each(mut tables: Tables, entries: &[Entry<'_>]) -> Result<Tables, AllocError>
+    requires groups { AreGroups tables.groups }
+    requires accepted { AreAccepted (map mapping_of entries.now) }
+    ensures { IfOk result (λ made. AreGroups made.groups
+        × IsNormal (listing tables.groups ++ map mapping_of entries.now) (listing made.groups)) }
+{
+    for entry in entries {
+        tables.put(entry.old_email(), entry)?;
+    }
+    Ok(tables)
 }

@@ -1,11 +1,11 @@
 //! Binary searches for emails and names in tables. [`Steps`] makes and counts all comparisons of keys.
-ghost use Rattle.std.specs.Prelude.{◌<◌, ◌≤◌, ◌+◌, ◌-◌, ◌^◌, All, length, map, drop, min, IfOk, IfErr};
+ghost use Rattle.std.specs.Prelude.{◌≡◌, ◌<◌, ◌≤◌, ◌+◌, ◌-◌, ◌^◌, All, IfErr, IfOk, Some, length, map, min, slice_get};
 ghost use Rattle.std.specs.List.{AllByRecursion};
-ghost use Rattle.std.specs.List.Sorted.{IsStrictlySortedBy};
+ghost use Rattle.std.specs.List.Sorted.{IsPartitionPoint, IsSearchInRange, IsStrictlySortedBy};
 ghost use Rattle.mailmap_entries.specs.Folding.{folded, text_cmp};
-ghost use Rattle.mailmap_entries.specs.Search.{digits};
+ghost use Rattle.mailmap_entries.specs.Search.{IsPartitioned, digits};
 ghost use Rattle.mailmap_tables.specs.Groups.{email_key, name_key};
-ghost use Rattle.mailmap_tables.specs.KeySearch.{IsFound, IsMissing};
+ghost use Rattle.mailmap_tables.specs.KeySearch.{IsFound, IsMissing, compared};
 ghost use Rattle.mailmap_tables.specs.Pool.{LiesIn, NameInPool, name_group};
 ghost use Rattle.mailmap_tables.specs.RowTexts.{old_span};
 
@@ -16,24 +16,21 @@ use mailmap_entries::fold::{Probe, Steps, search};
 use std::cmp::Ordering;
 use std::mem;
 
-// The emails of tables from `start` on, compared to one email.
+// The emails of tables, compared to one email.
 #[derive(Drop)]
 struct EmailProbe<'a> {
     tables: &'a View<'a>,
-    start: usize,
     email: Prefixed<'a>,
     steps: Steps,
-    ghost few: { length tables.now.groups < 2 ^ 64 },
 }
 
 impl Probe for EmailProbe<'_> {
-    ghost answers = { λ p. map (λ g. text_cmp (email_key g) (folded p.email.text.now))
-        (drop p.start p.tables.now.groups) };
+    ghost answers = { λ p. compared email_key (folded p.email.text.now) p.tables.now.groups };
 
     ghost asked = { λ p. p.steps };
 
     fn ask(&mut self, index: usize) -> Ordering {
-        let known = self.tables.email_text(self.start + index);
+        let known = self.tables.email_text(index);
         self.steps.compare_prefixed(known, self.email)
     }
 }
@@ -49,8 +46,7 @@ struct NameProbe<'a> {
 }
 
 impl Probe for NameProbe<'_> {
-    ghost answers = { λ p. map (λ n. text_cmp (name_key n) (folded p.name.now))
-        (map (name_group p.tables.now.pool) p.names.now) };
+    ghost answers = { λ p. compared name_key (folded p.name.now) (map (name_group p.tables.now.pool) p.names.now) };
 
     ghost asked = { λ p. p.steps };
 
@@ -60,82 +56,92 @@ impl Probe for NameProbe<'_> {
     }
 }
 
-/// The index of an email among those of the tables from `start` on, or the index to insert it at.
-pub(crate) fn find_email(tables: &View<'_>, start: usize, email: &[u8]) -> Result<usize, usize>
-    requires start { start ≤ length tables.now.groups }
-    requires ascending { IsStrictlySortedBy text_cmp (map email_key tables.now.groups) }
-    ensures found { IfOk result (IsFound email_key (folded email.now) start tables.now.groups) }
-    ensures missing { IfErr result (IsMissing email_key (folded email.now) start tables.now.groups) }
+/// The index of an email, or the index to insert it at. Compares to the last email first: tables are built of entries in
+/// ascending order, so that each entry's email is the last one or comes after it.
+pub(crate) fn find_email_last_first(tables: &View<'_>, email: Prefixed<'_>) -> Result<usize, usize>
+    requires { IsStrictlySortedBy text_cmp (map email_key tables.now.groups) }
+    ensures within { IsSearchInRange result (length tables.now.groups) }
+    ensures found { IfOk result (IsFound email_key (folded email.entry.text.now) tables.now.groups) }
+    ensures missing { IfErr result (IsMissing email_key (folded email.entry.text.now) tables.now.groups) }
 {
-    find_email_counted(tables, start, email, &mut Steps::new())
+    let mut probe = EmailProbe {
+        tables,
+        email,
+        steps: Steps::new(),
+    };
+    search_last_first(tables.email_count(), &mut probe)
 }
 
-/// Does what [`find_email`] does among all emails, but compares to the last email first. If a mailmap is sorted, each
-/// entry's email is the last one or comes after it.
-pub(crate) fn find_email_last_first(tables: &View<'_>, email: &[u8]) -> Result<usize, usize>
-    requires { IsStrictlySortedBy text_cmp (map email_key tables.now.groups) }
-    ensures found { IfOk result (IsFound email_key (folded email.now) 0 tables.now.groups) }
-    ensures missing { IfErr result (IsMissing email_key (folded email.now) 0 tables.now.groups) }
+/// The index of a name among the names of an email, or the index to insert it at. Compares to the last name first.
+pub(crate) fn find_name_last_first(
+    tables: &View<'_>,
+    names: &[NameRow],
+    name: &[u8],
+) -> Result<usize, usize>
+    requires in_pool { AllByRecursion (NameInPool (length tables.now.pool)) names.now }
+    requires ascending { IsStrictlySortedBy text_cmp
+        (map name_key (map (name_group tables.now.pool) names.now)) }
+    ensures within { IsSearchInRange result (length names.now) }
+    ensures found { IfOk result (IsFound name_key (folded name.now) (map (name_group tables.now.pool) names.now)) }
+    ensures missing { IfErr result (IsMissing name_key (folded name.now) (map (name_group tables.now.pool) names.now)) }
 {
-    let len = tables.email_count();
+    let mut probe = NameProbe {
+        tables,
+        names,
+        name,
+        steps: Steps::new(),
+    };
+    search_last_first(names.len(), &mut probe)
+}
+
+// Does what [`search`] does, but asks about the last index first.
+fn search_last_first<P: Probe>(len: usize, p: &mut P) -> Result<usize, usize>
+    requires whole { len ≡ length (P.answers p.old) }
+    requires parted { IsPartitioned (P.answers p.old) }
+    requires none_asked { P.asked p.old ≡ 0 }
+    ensures within { IsSearchInRange result len }
+    ensures found { IfOk result (λ i. slice_get (P.answers p.old) i ≡ Some Ordering.Equal) }
+    ensures missing { IfErr result
+        (λ i. IsPartitionPoint (λ a. a ≡ Ordering.Less) (λ a. a ≡ Ordering.Greater) (P.answers p.old) i) }
+{
     if 0 < len {
-        let sought = Prefixed::new(email);
-        match Steps::new().compare_prefixed(tables.email_text(len - 1), sought) {
+        match p.ask(len - 1) {
             Ordering::Less => return Err(len),
             Ordering::Equal => return Ok(len - 1),
             Ordering::Greater => {}
         }
     }
-    find_email(tables, 0, email)
+    search(len, p)
 }
 
-/// The index of a name among the names of an email, or the index to insert it at.
-pub(crate) fn find_name(tables: &View<'_>, names: &[NameRow], name: &[u8]) -> Result<usize, usize>
-    requires in_pool { AllByRecursion (NameInPool (length tables.now.pool)) names.now }
-    requires ascending { IsStrictlySortedBy text_cmp
-        (map name_key (map (name_group tables.now.pool) names.now)) }
-    ensures found { IfOk result
-        (IsFound name_key (folded name.now) 0 (map (name_group tables.now.pool) names.now)) }
-    ensures missing { IfErr result
-        (IsMissing name_key (folded name.now) 0 (map (name_group tables.now.pool) names.now)) }
-{
-    find_name_counted(tables, names, name, &mut Steps::new())
-}
-
-/// Does what [`find_email`] does, and counts the comparisons. There are at most as many as the number of emails from
-/// `start` on has binary digits.
+/// The index of an email, or the index to insert it at. Counts the comparisons: there are at most as many as the number
+/// of emails has binary digits.
 pub fn find_email_counted(
     tables: &View<'_>,
-    start: usize,
     email: &[u8],
     steps: &mut Steps,
 ) -> Result<usize, usize>
-    requires start { start ≤ length tables.now.groups }
     requires ascending { IsStrictlySortedBy text_cmp (map email_key tables.now.groups) }
     requires countable { steps.old ≤ usize.MAX - 64 }
-    ensures found { IfOk result (IsFound email_key (folded email.now) start tables.now.groups) }
-    ensures missing { IfErr result (IsMissing email_key (folded email.now) start tables.now.groups) }
-    ensures at_most { steps.new ≤ steps.old + digits (length tables.now.groups - start) }
+    ensures within { IsSearchInRange result (length tables.now.groups) }
+    ensures found { IfOk result (IsFound email_key (folded email.now) tables.now.groups) }
+    ensures missing { IfErr result (IsMissing email_key (folded email.now) tables.now.groups) }
+    ensures at_most { steps.new ≤ steps.old + digits (length tables.now.groups) }
     ensures few { steps.new ≤ steps.old + 64 }
-    ensures at_least { steps.old + min 1 (length tables.now.groups - start) ≤ steps.new }
+    ensures at_least { steps.old + min 1 (length tables.now.groups) ≤ steps.new }
 {
-    let len = tables.email_count();
     let mut probe = EmailProbe {
         tables,
-        start,
         email: Prefixed::new(email),
         steps: mem::replace(steps, Steps::new()),
     };
-    let found = search(len - start, &mut probe);
+    let found = search(tables.email_count(), &mut probe);
     *steps = probe.steps;
-    match found {
-        Ok(i) => Ok(start + i),
-        Err(i) => Err(start + i),
-    }
+    found
 }
 
-/// Does what [`find_name`] does, and counts the comparisons. There are at most as many as the number of names has
-/// binary digits.
+/// The index of a name among the names of an email, or the index to insert it at. Counts the comparisons: there are at
+/// most as many as the number of names has binary digits.
 pub fn find_name_counted(
     tables: &View<'_>,
     names: &[NameRow],
@@ -146,10 +152,9 @@ pub fn find_name_counted(
     requires ascending { IsStrictlySortedBy text_cmp
         (map name_key (map (name_group tables.now.pool) names.now)) }
     requires countable { steps.old ≤ usize.MAX - 64 }
-    ensures found { IfOk result
-        (IsFound name_key (folded name.now) 0 (map (name_group tables.now.pool) names.now)) }
-    ensures missing { IfErr result
-        (IsMissing name_key (folded name.now) 0 (map (name_group tables.now.pool) names.now)) }
+    ensures within { IsSearchInRange result (length names.now) }
+    ensures found { IfOk result (IsFound name_key (folded name.now) (map (name_group tables.now.pool) names.now)) }
+    ensures missing { IfErr result (IsMissing name_key (folded name.now) (map (name_group tables.now.pool) names.now)) }
     ensures at_most { steps.new ≤ steps.old + digits (length names.now) }
     ensures at_least { steps.old + min 1 (length names.now) ≤ steps.new }
 {

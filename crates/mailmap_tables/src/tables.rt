@@ -1,31 +1,36 @@
-//! The tables of a snapshot: a pool with the bytes of all texts, and flat tables of emails and of names, whose rows say
+//! The tables of a snapshot: a pool with the bytes of all texts, and a table of emails with their names, whose rows say
 //! where their texts are in the pool.
-ghost use Rattle.std.specs.Prelude.{◌≡◌, ◌≤◌, ◌<◌, ◌++◌, [], ◌∷◌, length, ◌-◌, List, ℕ, OnOk, OnErr, IfOk, map, take};
-ghost use Rattle.std.specs.Prelude.{drop};
-ghost use Rattle.std.specs.List.{AllByRecursion};
-ghost use Rattle.mailmap_entries.specs.Folding.{folded};
-ghost use Rattle.mailmap_entries.specs.Prefixes.{IsKeyPrefix};
+ghost use Rattle.std.specs.Prelude.{◌≡◌, ◌++◌, ◌+◌, ◌<◌, ◌≤◌, ◌^◌, [], IfOk, OnErr, OnOk, length, map, slice_set};
+ghost use Rattle.std.specs.List.{HoldsAt, insert};
+ghost use Rattle.std.specs.Option.{ForSome, option_map};
+ghost use Rattle.mailmap_entries.specs.Folding.{Text};
+ghost use Rattle.mailmap_tables.specs.Pool.{rows_of};
 
-use crate::pool::Pool;
 use crate::rows::{EmailRow, NameRow};
-use crate::texts::{RowTexts, Span};
-use crate::view::{View, last_end};
-use mailmap_batches::groups::{DefaultFields, NamedFields};
-use mailmap_entries::fold::prefix::key_prefix;
+use crate::texts::{RowTexts, Source, append_row};
+use crate::view::View;
 use std::alloc::{AllocError, Global};
 use std::marker::Model;
 
-/// The pool and the two tables. While tables are built, the names of an email are pushed before the email itself.
+// Before the tables are rebuilt, a pool may always grow by twice this.
+const SPARE_LEN: usize = 1024;
+
+// The most names in tables, more than memory can hold.
+const MAX_NAMES: usize = (1 << 63) - 1;
+
+/// The pool and the table of emails.
 ///
-/// Contracts see the pool, a group for each email, and the names that were pushed but don't belong to an email yet
-/// (`unassigned_names`).
+/// Contracts see the pool, and a group for each email.
 #[derive(Drop)]
 pub struct Tables {
-    pub(crate) pool: Pool,
-    pub(crate) emails: Vec<EmailRow>,
-    pub(crate) names: Vec<NameRow>,
+    pool: Vec<u8>,
+    emails: Vec<EmailRow>,
     // the key prefix of each email, contiguous in memory: a search rarely reads more
-    pub(crate) prefixes: Vec<u128>,
+    prefixes: Vec<u128>,
+    // the number of names of all emails
+    name_count: usize,
+    // the length of the pool when the tables were built, with texts that later entries of the batch replaced
+    built_len: usize,
 }
 
 impl Model for Tables {
@@ -33,207 +38,201 @@ impl Model for Tables {
 
     ghost Value = { Contents };
 
-    ghost use Rattle.mailmap_tables.specs.Pool.{AreTables, contents};
+    ghost use Rattle.mailmap_tables.specs.Pool.{AreTables, contents, rows_of};
 
-    ghost view = { λ t. contents t.pool.bytes.items t.names.items t.emails.items };
+    ghost view = { λ t. contents t.pool.items (rows_of t.emails.items) };
 
-    ghost invariant = { λ t. AreTables t.pool.bytes.items t.names.items t.emails.items t.prefixes.items };
+    ghost invariant = { λ t. AreTables t.pool.items (rows_of t.emails.items) t.prefixes.items t.name_count };
 }
 
 impl Tables {
     ghost use Rattle.mailmap_tables.specs.Groups.{Contents};
-    ghost use Rattle.mailmap_tables.specs.Pool.{OwnSpells};
-    ghost use Rattle.mailmap_batches.specs.Given.{fields_given, named_group};
-    ghost use Rattle.mailmap_tables.specs.Pool.{spelled, LiesIn, NameInPool, TextsInPool, name_group, group_of};
-    ghost use Rattle.mailmap_tables.specs.RowTexts.{old_span};
 
     /// Empty tables. Allocates nothing.
     pub fn new(alloc: Global) -> Tables
-        ensures { result ≡ record { pool = []; groups = []; unassigned_names = [] } }
+        ensures { result ≡ record { pool = []; groups = [] } }
     {
         Tables {
-            pool: Pool::new(alloc),
+            pool: Vec::new(alloc),
             emails: Vec::new(alloc),
-            names: Vec::new(alloc),
             prefixes: Vec::new(alloc),
+            name_count: 0,
+            built_len: 0,
         }
     }
 
-    /// Tables with a copy of the pool of `existing_tables`, in which texts keep their positions, but without emails and
-    /// names. There is capacity for the rows of `existing_tables` and up to `rows` more, and for `bytes` more bytes in the
-    /// pool.
-    pub(crate) fn over_pool(
+    /// Empty tables with capacity for this many emails, and for this many bytes of texts. Pages that aren't used stay
+    /// untouched, while tables that grow would leave holes in the memory.
+    pub(crate) fn with_capacity(
         alloc: Global,
-        existing_tables: &Tables,
-        rows: usize,
+        emails: usize,
         bytes: usize,
     ) -> Result<Tables, AllocError>
-        ensures { IfOk result
-            (λ made. made ≡ record { pool = existing_tables.now.pool; groups = []; unassigned_names = [] }) }
+        ensures { IfOk result (λ made. made ≡ record { pool = []; groups = [] }) }
     {
         Ok(Tables {
-            pool: existing_tables.pool.try_clone(alloc, bytes)?,
-            emails: Vec::with_capacity(alloc, with_more(existing_tables.emails.len(), rows))?,
-            names: Vec::with_capacity(alloc, with_more(existing_tables.names.len(), rows))?,
-            prefixes: Vec::with_capacity(alloc, with_more(existing_tables.emails.len(), rows))?,
+            pool: Vec::with_capacity(alloc, bytes)?,
+            emails: Vec::with_capacity(alloc, emails)?,
+            prefixes: Vec::with_capacity(alloc, emails)?,
+            name_count: 0,
+            built_len: 0,
         })
     }
-
-    /// Appends a text to the pool.
-    pub(crate) fn push_text(&mut self, text: &[u8]) -> Result<Span, AllocError>
-        ensures grown { OnOk result (self.new ≡ record self.old { pool = self.old.pool ++ text.now }) }
-        ensures in_pool { IfOk result (LiesIn (length self.new.pool)) }
-        ensures spells { IfOk result (λ span. spelled self.new.pool span ≡ text.now) }
-    {
-        self.pool.push_text(text)
-    }
-
-    /// Writes the fields of a name to the pool, in place of those of its existing row, and returns its new row.
-    pub(crate) fn name_row(
-        &mut self,
-        existing: RowTexts,
-        named: NamedFields<'_>,
-    ) -> Result<NameRow, AllocError>
-        requires { TextsInPool (length self.old.pool) existing }
-        ensures grown { (more : List ℕ) × (self.new ≡ record self.old { pool = self.old.pool ++ more }) }
-        ensures in_pool { IfOk result (NameInPool (length self.new.pool)) }
-        ensures spells { IfOk result (λ row. name_group self.new.pool row
-            ≡ record (named_group named.entry) { old_name = spelled self.old.pool (old_span existing) }) }
-    {
-        self.pool.name_row(existing, named)
-    }
-
-    /// Writes the new fields of an email to the pool, and returns its new row. A field that isn't given stays as it is.
-    pub(crate) fn email_row(
-        &mut self,
-        texts: RowTexts,
-        given: DefaultFields<'_>,
-    ) -> Result<RowTexts, AllocError>
-        requires { TextsInPool (length self.old.pool) texts }
-        ensures grown { (more : List ℕ) × (self.new ≡ record self.old { pool = self.old.pool ++ more }) }
-        ensures in_pool { IfOk result (TextsInPool (length self.new.pool)) }
-        ensures spells { IfOk result (OwnSpells self.old.pool self.new.pool texts (fields_given given.entry)) }
-    {
-        self.pool.email_row(texts, given)
-    }
-
-    /// Appends a name, which belongs to no email yet.
-    pub(crate) fn push_name(&mut self, row: NameRow) -> Result<(), AllocError>
-        requires { NameInPool (length self.old.pool) row }
-        ensures { OnOk result (self.new ≡ record self.old {
-          unassigned_names = self.old.unassigned_names ++ name_group self.old.pool row ∷ [];
-        }) }
-    {
-        self.names.push(row)?;
-        Ok(())
-    }
-
-    /// Appends names, which belong to no email yet.
-    pub(crate) fn push_names(&mut self, rows: &[NameRow]) -> Result<(), AllocError>
-        requires { AllByRecursion (NameInPool (length self.old.pool)) rows.now }
-        ensures { OnOk result (self.new ≡ record self.old {
-          unassigned_names = self.old.unassigned_names ++ map (name_group self.old.pool) rows.now;
-        }) }
-    {
-        self.names.extend_from_slice(rows)?;
-        Ok(())
-    }
-
-    /// Appends an email. All unassigned names become its names.
-    #[inline(always)]
-    pub(crate) fn push_email(&mut self, texts: RowTexts) -> Result<(), AllocError>
-        requires { TextsInPool (length self.old.pool) texts }
-        ensures { OnOk result (self.new ≡ record {
-          pool = self.old.pool;
-          groups = self.old.groups
-              ++ record (group_of self.old.pool texts []) { names = self.old.unassigned_names } ∷ [];
-          unassigned_names = [];
-        }) }
-    {
-        let count = self.names.len() - last_end(&self.emails);
-        let prefix = key_prefix(self.view().text(texts.old()));
-        self.push_email_with_prefix(texts, count, prefix)
-    }
-
-    /// Appends an email whose prefix is known. The first `count` unassigned names become its names.
-    pub(crate) fn push_email_with_prefix(
-        &mut self,
-        texts: RowTexts,
-        count: usize,
-        prefix: u128,
-    ) -> Result<(), AllocError>
-        requires in_pool { TextsInPool (length self.old.pool) texts }
-        requires prefix { IsKeyPrefix prefix (folded (spelled self.old.pool (old_span texts))) }
-        requires unassigned_names { count ≤ length self.old.unassigned_names }
-        ensures { OnOk result (self.new ≡ record {
-          pool = self.old.pool;
-          groups = self.old.groups
-              ++ record (group_of self.old.pool texts []) { names = take count self.old.unassigned_names } ∷ [];
-          unassigned_names = drop count self.old.unassigned_names;
-        }) }
-    {
-        let names_start = last_end(&self.emails);
-        let row = EmailRow {
-            texts,
-            names_start,
-            names_end: names_start + count,
-        };
-        push_row(&mut self.emails, &mut self.prefixes, row, prefix)?;
-        Ok(())
-    }
-}
-
-// Appends a row and its prefix, or neither.
-fn push_row(
-    emails: &mut Vec<EmailRow>,
-    prefixes: &mut Vec<u128>,
-    row: EmailRow,
-    prefix: u128,
-) -> Result<(), AllocError>
-    ensures emails { OnOk result (emails.new.items ≡ emails.old.items ++ row ∷ []) }
-    ensures prefixes { OnOk result (prefixes.new.items ≡ prefixes.old.items ++ prefix ∷ []) }
-    ensures neither { OnErr result ((emails.new.items ≡ emails.old.items) × (prefixes.new.items ≡ prefixes.old.items)) }
-{
-    emails.reserve(1)?;
-    prefixes.push(prefix)?;
-    emails.push(row)?;
-    Ok(())
-}
-
-// The number of rows to allocate: `len` and `more`. A large batch may have few distinct keys, so `more` counts at most
-// as many rows as there are, plus 64.
-fn with_more(len: usize, more: usize) -> usize {
-    len.saturating_add(more.min(len.saturating_add(64)))
-}
-
-impl Tables {
-    ghost use Rattle.mailmap_tables.specs.Groups.{Contents};
 
     pub fn view(&self) -> View<'_>
         ensures { result ≡ self.now }
     {
-        View {
-            pool: &self.pool.bytes,
-            emails: &self.emails,
-            prefixes: &self.prefixes,
-            names: &self.names,
-        }
+        View::of(&self.pool, &self.emails, &self.prefixes, self.name_count)
     }
 
     pub fn try_clone(&self, alloc: Global) -> Result<Tables, AllocError>
         ensures { IfOk result (λ copy. copy ≡ self.now) }
     {
         Ok(Tables {
-            pool: self.pool.try_clone(alloc, 0)?,
-            emails: Vec::from_slice(alloc, &self.emails)?,
-            names: Vec::from_slice(alloc, &self.names)?,
+            pool: Vec::from_slice(alloc, &self.pool)?,
+            emails: copied(alloc, &self.emails)?,
             prefixes: Vec::from_slice(alloc, &self.prefixes)?,
+            name_count: self.name_count,
+            built_len: self.built_len,
         })
+    }
+
+    pub(crate) fn allocator(&self) -> Global {
+        *self.pool.allocator()
+    }
+
+    /// The same tables, with the length of their pool noted as that of newly built ones.
+    pub(crate) fn built(mut self) -> Tables
+        ensures { result ≡ self }
+    {
+        self.built_len = self.pool.len();
+        self
+    }
+
+    /// Whether the pool has become more than twice as long as it was when the tables were built, and not only by little.
+    pub(crate) fn is_twice_as_built(&self) -> bool {
+        self.built_len < (self.pool.len() / 2).saturating_sub(SPARE_LEN)
     }
 }
 
-impl Tables {
-    pub(crate) fn allocator(&self) -> Global {
-        *self.pool.bytes.allocator()
+fn copied(alloc: Global, rows: &[EmailRow]) -> Result<Vec<EmailRow>, AllocError>
+    ensures { IfOk result (λ copy. rows_of copy.items ≡ rows_of rows.now) }
+{
+    let mut copy = Vec::with_capacity(alloc, rows.len())?;
+    for row in rows {
+        let names = Vec::from_slice(alloc, &row.names)?;
+        copy.push(EmailRow {
+            texts: row.texts,
+            names,
+        })?;
     }
+    Ok(copy)
+}
+
+/// Changes of single rows.
+impl Tables {
+    ghost use Rattle.mailmap_tables.specs.Groups.{Contents, EmailGroup};
+    ghost use Rattle.mailmap_tables.specs.Pool.{IsRow, IsWithin, NameInPool, RowInPool, TextsInPool, fields_of, name_group};
+    ghost use Rattle.mailmap_tables.specs.Pool.{prefix_of, row_group, row_of, spelled, text_of, with_email_at};
+    ghost use Rattle.mailmap_tables.specs.RowTexts.{old_span};
+
+    /// Appends the texts of a row to the pool.
+    pub(crate) fn append_row(
+        &mut self,
+        old: Source<'_>,
+        new_name: Option<Source<'_>>,
+        new_email: Option<Source<'_>>,
+    ) -> Result<RowTexts, AllocError>
+        requires old { IsWithin (length self.old.pool) old }
+        requires new_name { ForSome new_name (IsWithin (length self.old.pool)) }
+        requires new_email { ForSome new_email (IsWithin (length self.old.pool)) }
+        ensures grown { (more : Text) × (self.new ≡ record self.old { pool = self.old.pool ++ more }) }
+        ensures row { IfOk result (IsRow self.new.pool (text_of self.old.pool old.entry)
+            (record {
+              name = option_map (text_of self.old.pool) new_name.entry;
+              email = option_map (text_of self.old.pool) new_email.entry;
+            })) }
+    {
+        append_row(&mut self.pool, old, new_name, new_email)
+    }
+
+    /// Replaces the texts of an email. The spelling of the old email stays the same.
+    pub(crate) fn replace_texts(&mut self, email: usize, texts: RowTexts)
+        requires email { email < length self.old.groups }
+        requires in_pool { TextsInPool (length self.old.pool) texts }
+        requires same { HoldsAt (λ (g : EmailGroup). spelled self.old.pool (old_span texts) ≡ g.old_email)
+            self.old.groups email }
+        ensures { HoldsAt
+            (λ (g : EmailGroup). self.new
+            ≡ with_email_at self.old email (record g { own = fields_of self.old.pool texts })) self.old.groups email }
+    {
+        self.emails[email].texts = texts;
+    }
+
+    pub(crate) fn replace_name(&mut self, email: usize, index: usize, row: NameRow)
+        requires email { email < length self.old.groups }
+        requires index { HoldsAt (λ (g : EmailGroup). index < length g.names) self.old.groups email }
+        requires in_pool { NameInPool (length self.old.pool) row }
+        ensures { HoldsAt
+            (λ (g : EmailGroup). self.new
+            ≡ with_email_at self.old email (record g { names = slice_set g.names index (name_group self.old.pool row) }))
+            self.old.groups email }
+    {
+        self.emails[email].names[index] = row;
+    }
+
+    /// Inserts a name among those of an email.
+    pub(crate) fn insert_name(
+        &mut self,
+        email: usize,
+        index: usize,
+        row: NameRow,
+    ) -> Result<(), AllocError>
+        requires email { email < length self.old.groups }
+        requires index { HoldsAt (λ (g : EmailGroup). index ≤ length g.names) self.old.groups email }
+        requires in_pool { NameInPool (length self.old.pool) row }
+        ensures ok { OnOk result (HoldsAt
+            (λ (g : EmailGroup). self.new
+            ≡ with_email_at self.old email (record g { names = insert g.names index (name_group self.old.pool row) }))
+            self.old.groups email) }
+        ensures err { OnErr result (self.new ≡ self.old) }
+    {
+        let count = with_more(self.name_count, 1)?;
+        self.emails[email].names.insert(index, row)?;
+        self.name_count = count;
+        Ok(())
+    }
+
+    /// Inserts an email before the one at an index.
+    pub(crate) fn insert_email(
+        &mut self,
+        index: usize,
+        prefix: u128,
+        row: EmailRow,
+    ) -> Result<(), AllocError>
+        requires index { index ≤ length self.old.groups }
+        requires prefix { prefix ≡ prefix_of self.old.pool (row_of row) }
+        requires in_pool { RowInPool self.old.pool (row_of row) }
+        ensures ok { OnOk result
+            (self.new ≡ record self.old { groups = insert self.old.groups index (row_group self.old.pool (row_of row)) }) }
+        ensures err { OnErr result (self.new ≡ self.old) }
+    {
+        let count = with_more(self.name_count, row.names.len())?;
+        self.emails.reserve(1)?;
+        self.prefixes.insert(index, prefix)?;
+        self.emails.insert(index, row)?;
+        self.name_count = count;
+        Ok(())
+    }
+}
+
+// The number of names with some more.
+fn with_more(count: usize, more: usize) -> Result<usize, AllocError>
+    requires { count < 2 ^ 63 }
+    ensures { IfOk result (λ n. (n ≡ count + more) × (n < 2 ^ 63)) }
+{
+    if MAX_NAMES - count < more {
+        return Err(AllocError);
+    }
+    Ok(count + more)
 }

@@ -1,13 +1,9 @@
 //! The texts of a row: an old text, and the new name and the new email that replace it. They are consecutive in the
 //! pool.
-ghost use Rattle.std.specs.Prelude.{◌≡◌, ◌≤◌, ◌<◌, ◌+◌, ◌++◌, None, Some, ◌-◌, min, IfOk, IsOk, IsSome, IsTrue, OnOk};
-ghost use Rattle.std.specs.Prelude.{OnErr, length, vec_len, vec_capacity};
-ghost use Rattle.std.specs.Option.{ForSome};
-ghost use Rattle.mailmap_tables.specs.Merging.{Extends};
-ghost use Rattle.mailmap_tables.specs.Pool.{GrowsBy, LiesIn, RowSpells, TextsInPool, bytes_of};
-ghost use Rattle.mailmap_tables.specs.RowTexts.{AreTogether, IsBare, byte_count, email_span, len_of, name_span};
-ghost use Rattle.mailmap_tables.specs.RowTexts.{old_span};
-ghost use Rattle.mailmap_tables.specs.RowTexts.{row_bytes, row_of, span_bytes, span_of};
+ghost use Rattle.std.specs.Prelude.{◌≡◌, ◌≤◌, ◌+◌, ◌++◌, [], IfOk, OnOk, OnErr, length, unwrap_or};
+ghost use Rattle.std.specs.Option.{ForSome, option_map};
+ghost use Rattle.mailmap_tables.specs.Pool.{Extends, IsRow, IsWithin, stored_len, text_of};
+ghost use Rattle.mailmap_tables.specs.RowTexts.{byte_count, email_span, name_span, old_span, span_of};
 
 use std::alloc::AllocError;
 
@@ -32,18 +28,6 @@ pub struct RowTexts {
 }
 
 impl RowTexts {
-    /// An old text without a new name and a new email.
-    pub(crate) fn bare(old: Span) -> RowTexts
-        ensures { IsBare result old }
-    {
-        RowTexts {
-            start: old.start,
-            old_len: old.len,
-            new_name_len: NO_TEXT,
-            new_email_len: NO_TEXT,
-        }
-    }
-
     pub fn old(self) -> Span
         ensures { result ≡ old_span self }
     {
@@ -69,25 +53,6 @@ impl RowTexts {
         let start = self.start + self.old_len + byte_count(self.new_name_len);
         span_of(start, self.new_email_len)
     }
-
-    /// The number of bytes of the texts, at most `usize::MAX`.
-    pub(crate) fn len(self) -> usize
-        ensures { result ≡ min (row_bytes self) usize.MAX }
-    {
-        let fields = byte_count(self.new_name_len).saturating_add(byte_count(self.new_email_len));
-        self.old_len.saturating_add(fields)
-    }
-}
-
-/// The new name and the new email of a row in the pool, if there are any.
-pub(crate) fn fields(pool: &[u8], texts: RowTexts) -> (Option<Span>, Option<Span>)
-    requires { TextsInPool (length pool.now) texts }
-    ensures new_name { result.0 ≡ name_span texts }
-    ensures new_email { result.1 ≡ email_span texts }
-{
-    let len = pool.len();
-    prove!(texts.start <= len);
-    (texts.new_name(), texts.new_email())
 }
 
 // The text of this length at `start`, `None` if the length is [`NO_TEXT`].
@@ -110,94 +75,71 @@ fn byte_count(len: usize) -> usize
     if len == NO_TEXT { 0 } else { len }
 }
 
-// The length to store for a text, [`NO_TEXT`] without one.
-#[inline(always)]
-fn len_of(span: Option<Span>) -> usize
-    ensures { result ≡ len_of span }
-{
-    match span {
-        Some(span) => span.len,
-        None => NO_TEXT,
-    }
+/// A text to append to the pool: one that is given, or one of the pool.
+#[derive(Clone, Copy)]
+pub(crate) enum Source<'a> {
+    Given(&'a [u8]),
+    Pool(Span),
 }
 
-/// Makes a row of texts in the pool. Unless they are consecutive already, copies them to the end of the pool.
-#[inline(always)]
-pub(crate) fn together(
+/// Appends the texts of a row to the pool.
+pub(crate) fn append_row(
     pool: &mut Vec<u8>,
-    old: Span,
-    new_name: Option<Span>,
-    new_email: Option<Span>,
+    old: Source<'_>,
+    new_name: Option<Source<'_>>,
+    new_email: Option<Source<'_>>,
 ) -> Result<RowTexts, AllocError>
-    requires old { LiesIn (length pool.old.items) old }
-    requires new_name { ForSome new_name (LiesIn (length pool.old.items)) }
-    requires new_email { ForSome new_email (LiesIn (length pool.old.items)) }
+    requires old { IsWithin (length pool.old.items) old }
+    requires new_name { ForSome new_name (IsWithin (length pool.old.items)) }
+    requires new_email { ForSome new_email (IsWithin (length pool.old.items)) }
     ensures grown { Extends pool.old.items pool.new.items }
-    ensures in_pool { IfOk result (TextsInPool (length pool.new.items)) }
-    ensures spells { IfOk result (RowSpells pool.old.items pool.new.items old new_name new_email) }
-    ensures growth { GrowsBy (old.len + (span_bytes new_name + span_bytes new_email)) pool.old pool.new result }
+    ensures row { IfOk result (IsRow pool.new.items (text_of pool.old.items old.entry)
+        (record {
+          name = option_map (text_of pool.old.items) new_name.entry;
+          email = option_map (text_of pool.old.items) new_email.entry;
+        })) }
 {
-    let len = pool.len();
-    if are_together(old, new_name, new_email) {
-        return Ok(row(old.start, old, new_name, new_email));
-    }
-    push_again(pool, Some(old))?;
-    push_again(pool, new_name)?;
-    push_again(pool, new_email)?;
-    Ok(row(len, old, new_name, new_email))
-}
-
-#[inline(always)]
-fn row(start: usize, old: Span, new_name: Option<Span>, new_email: Option<Span>) -> RowTexts
-    ensures { result ≡ row_of start old new_name new_email }
-{
-    RowTexts {
+    let start = pool.len();
+    let old_len = append(pool, old)?;
+    let new_name_len = append_optional(pool, new_name)?;
+    let new_email_len = append_optional(pool, new_email)?;
+    Ok(RowTexts {
         start,
-        old_len: old.len,
-        new_name_len: len_of(new_name),
-        new_email_len: len_of(new_email),
-    }
+        old_len,
+        new_name_len,
+        new_email_len,
+    })
 }
 
-// Whether the texts are consecutive.
-#[inline(always)]
-fn are_together(old: Span, new_name: Option<Span>, new_email: Option<Span>) -> bool
-    requires old { LiesIn (usize.MAX - 1) old }
-    requires new_name { ForSome new_name (LiesIn (usize.MAX - 1)) }
-    requires new_email { ForSome new_email (LiesIn (usize.MAX - 1)) }
-    ensures { IsTrue result → AreTogether old new_name new_email }
-{
-    let Some(end) = end_after(new_name, old.start + old.len) else {
-        return false;
-    };
-    end_after(new_email, end).is_some()
-}
-
-// The end of a text that starts at `start`, or `start` itself if there is no text. `None` if the text starts elsewhere.
-#[inline(always)]
-fn end_after(span: Option<Span>, start: usize) -> Option<usize>
-    requires { ForSome span (LiesIn (usize.MAX - 1)) }
-    ensures starts { IsSome result → ForSome span (λ s. s.start ≡ start) }
-    ensures end { ForSome result (λ end. end ≡ start + span_bytes span) }
-{
-    match span {
-        None => Some(start),
-        Some(span) if span.start == start => Some(start + span.len),
-        Some(_) => None,
-    }
-}
-
-// Appends a copy of a text of the pool to the pool, if there is one.
-#[inline(never)]
-fn push_again(pool: &mut Vec<u8>, span: Option<Span>) -> Result<(), AllocError>
-    requires { ForSome span (LiesIn (length pool.old.items)) }
-    ensures items { OnOk result (pool.new.items ≡ pool.old.items ++ bytes_of pool.old.items span) }
+// Appends a text, and returns its length.
+fn append(pool: &mut Vec<u8>, text: Source<'_>) -> Result<usize, AllocError>
+    requires { IsWithin (length pool.old.items) text }
+    ensures items { OnOk result (pool.new.items ≡ pool.old.items ++ text_of pool.old.items text.entry) }
+    ensures len { IfOk result (λ len. len ≡ length (text_of pool.old.items text.entry)) }
     ensures same { OnErr result (pool.new.items ≡ pool.old.items) }
-    ensures capacity { vec_capacity pool.old ≤ vec_capacity pool.new }
-    ensures succeeds { vec_len pool.old + span_bytes span ≤ vec_capacity pool.old → IsOk result }
 {
-    match span {
-        Some(span) => pool.extend_from_within(span.start..span.start + span.len),
-        None => Ok(()),
+    match text {
+        Source::Given(text) => {
+            pool.extend_from_slice(text)?;
+            Ok(text.len())
+        }
+        Source::Pool(span) => {
+            pool.extend_from_within(span.start..span.start + span.len)?;
+            Ok(span.len)
+        }
+    }
+}
+
+// Appends a text if there is one, and returns the length to store for it.
+fn append_optional(pool: &mut Vec<u8>, text: Option<Source<'_>>) -> Result<usize, AllocError>
+    requires { ForSome text (IsWithin (length pool.old.items)) }
+    ensures items { OnOk result (pool.new.items
+        ≡ pool.old.items ++ unwrap_or (option_map (text_of pool.old.items) text.entry) []) }
+    ensures len { IfOk result (λ len. len ≡ stored_len (option_map (text_of pool.old.items) text.entry)) }
+    ensures same { OnErr result (pool.new.items ≡ pool.old.items) }
+{
+    match text {
+        Some(text) => append(pool, text),
+        None => Ok(NO_TEXT),
     }
 }

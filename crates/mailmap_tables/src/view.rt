@@ -1,22 +1,20 @@
 //! Read access to tables, for lookups, listings and merges.
-ghost use Rattle.std.specs.Prelude.{[], ◌≡◌, ◌≤◌, ◌<◌, get_or, length, map, Some, slice_get, take, drop, ◌-◌};
+ghost use Rattle.std.specs.Prelude.{◌≡◌, ◌≤◌, ◌<◌, get_or, length, map, Some, slice_get};
 ghost use Rattle.std.specs.Option.{option_map, option_copied, ForSome};
-ghost use Rattle.std.specs.List.{AllByRecursion, flat_map};
-ghost use Rattle.mailmap_tables.specs.Pool.{end_of};
 
 use crate::rows::{EmailRow, NameRow};
-use crate::texts::{RowTexts, Span, fields};
+use crate::texts::{RowTexts, Span};
 use mailmap_entries::fold::prefix::Prefixed;
 use std::marker::Model;
 
-/// A read-only view of the pool and the tables. It has no allocator, so a function that gets nothing else can't
-/// allocate.
+/// A read-only view of the pool and the tables. Its functions hand out slices and numbers, so a function that gets
+/// nothing else can't allocate: of what a view has, only this module reaches the vectors, and through them an allocator.
 #[derive(Drop)]
 pub struct View<'a> {
-    pub(crate) pool: &'a [u8],
-    pub(crate) emails: &'a [EmailRow],
-    pub(crate) prefixes: &'a [u128],
-    pub(crate) names: &'a [NameRow],
+    pool: &'a [u8],
+    emails: &'a [EmailRow],
+    prefixes: &'a [u128],
+    name_count: usize,
 }
 
 impl<'a> Model for View<'a> {
@@ -24,19 +22,35 @@ impl<'a> Model for View<'a> {
 
     ghost Value = { Contents };
 
-    ghost use Rattle.mailmap_tables.specs.Pool.{AreTables, contents};
+    ghost use Rattle.mailmap_tables.specs.Pool.{AreTables, contents, rows_of};
 
-    ghost view = { λ t. contents t.pool.now t.names.now t.emails.now };
+    ghost view = { λ t. contents t.pool.now (rows_of t.emails.now) };
 
-    ghost invariant = { λ t. AreTables t.pool.now t.names.now t.emails.now t.prefixes.now };
+    ghost invariant = { λ t. AreTables t.pool.now (rows_of t.emails.now) t.prefixes.now t.name_count };
 }
 
 impl<'a> View<'a> {
     ghost use Rattle.mailmap_tables.specs.Groups.{Contents, EmailGroup, listing, row_count};
-    ghost use Rattle.mailmap_tables.specs.Pool.{spelled, LiesIn, NameInPool, TextsInPool, name_group, group_of};
-    ghost use Rattle.mailmap_tables.specs.Pool.{RowsInPool};
+    ghost use Rattle.mailmap_tables.specs.Pool.{AreTables, LiesIn, RowsInPool, TextsInPool, contents, group_of, rows_of};
+    ghost use Rattle.mailmap_tables.specs.Pool.{spelled};
     ghost use Rattle.mailmap_tables.specs.RowTexts.{email_span, name_span};
-    ghost use Rattle.mailmap_tables.specs.Reserved.{own_bytes};
+
+    pub(crate) fn of(
+        pool: &'a [u8],
+        emails: &'a [EmailRow],
+        prefixes: &'a [u128],
+        name_count: usize,
+    ) -> View<'a>
+        requires { AreTables pool.now (rows_of emails.now) prefixes.now name_count }
+        ensures { result ≡ contents pool.now (rows_of emails.now) }
+    {
+        View {
+            pool,
+            emails,
+            prefixes,
+            name_count,
+        }
+    }
 
     /// The number of emails.
     pub(crate) fn email_count(&self) -> usize
@@ -45,12 +59,12 @@ impl<'a> View<'a> {
         self.emails.len()
     }
 
-    /// The number of rows in both tables. No listing is longer.
+    /// The number of emails and names. No listing is longer.
     pub fn row_count(&self) -> usize
         ensures rows { result ≡ row_count self.now }
         ensures listing { length (listing self.now.groups) ≤ result }
     {
-        self.emails.len() + self.names.len()
+        self.emails.len() + self.name_count
     }
 
     /// The text at a span.
@@ -79,7 +93,7 @@ impl<'a> View<'a> {
         ensures { slice_get (map (λ (g : EmailGroup). g.old_email) self.now.groups) index ≡ Some result.text.now }
     {
         let row = at(self.emails, index);
-        Prefixed::with_prefix(self.text(row.texts.old()), at(self.prefixes, index))
+        Prefixed::with_prefix(self.text(row.texts.old()), *at(self.prefixes, index))
     }
 
     /// The new name and the new email of a row, if there are any.
@@ -88,17 +102,9 @@ impl<'a> View<'a> {
         ensures new_name { result.0 ≡ name_span texts }
         ensures new_email { result.1 ≡ email_span texts }
     {
-        fields(self.pool, texts)
-    }
-
-    /// The number of bytes of a row's texts, at most `usize::MAX`.
-    pub(crate) fn row_len(&self, texts: RowTexts) -> usize
-        requires { TextsInPool (length self.now.pool) texts }
-        ensures { own_bytes (group_of self.now.pool texts []) ≤ result }
-    {
         let len = self.pool.len();
         prove!(texts.start <= len);
-        texts.len()
+        (texts.new_name(), texts.new_email())
     }
 
     /// The texts of the email at an index, and the rows of its names.
@@ -108,46 +114,13 @@ impl<'a> View<'a> {
         ensures in_pool { RowsInPool self.now.pool result.0 result.1.now }
     {
         let row = at(self.emails, index);
-        (row.texts, part(self.names, row.names_start, row.names_end))
-    }
-
-    /// The names of all emails in a range of indices, from `from` up to but not including `to`.
-    pub(crate) fn names_between(&self, from: usize, to: usize) -> &'a [NameRow]
-        requires up { from ≤ to }
-        requires within { to ≤ length self.now.groups }
-        ensures names { map (name_group self.now.pool) result.now
-            ≡ flat_map (λ (g : EmailGroup). g.names) (take (to - from) (drop from self.now.groups)) }
-        ensures in_pool { AllByRecursion (NameInPool (length self.now.pool)) result.now }
-    {
-        part(
-            self.names,
-            last_end(&self.emails[..from]),
-            last_end(&self.emails[..to]),
-        )
+        (row.texts, row.names.as_slice())
     }
 }
 
-fn at<T: Copy>(rows: &[T], index: usize) -> T
+fn at<T>(rows: &[T], index: usize) -> &T
     requires { index < length rows.now }
-    ensures { result ≡ get_or rows.now index result }
+    ensures { result.now ≡ get_or rows.now index result.now }
 {
-    rows[index]
-}
-
-// The end of the last email's range of names.
-pub(crate) fn last_end(emails: &[EmailRow]) -> usize
-    ensures { result ≡ end_of 0 emails.now }
-{
-    match emails.last() {
-        Some(row) => row.names_end,
-        None => 0,
-    }
-}
-
-fn part(names: &[NameRow], from: usize, to: usize) -> &[NameRow]
-    requires up { from ≤ to }
-    requires within { to ≤ length names.now }
-    ensures { result.now ≡ take (to - from) (drop from names.now) }
-{
-    &names[from..to]
+    &rows[index]
 }

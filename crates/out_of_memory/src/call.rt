@@ -3,7 +3,7 @@
 use std::fmt;
 
 /// A call of the library, or an allocation of this program itself.
-#[derive(Clone, Copy)]
+#[derive(Clone, Copy, Debug)]
 pub enum Call {
     New,
     FromBytes,
@@ -11,12 +11,11 @@ pub enum Call {
     TryClone,
     Write,
     Merge,
-    /// A small merge, which is made in place.
-    MergeInPlace,
-    /// A merge that discards unused texts, and so rebuilds the snapshot.
-    MergeAnew,
+    /// A merge of a few entries, which are put into a copy of the tables.
+    MergeFew,
+    /// A merge of one entry, which is put into the tables in place.
+    MergeOne,
     MergeSources,
-    /// A merge of the first source, or of the third.
     FirstSource,
     ThirdSource,
     TryResolve,
@@ -30,7 +29,7 @@ pub enum Call {
     Stream,
     Compact,
     NewStream,
-    PushToStream,
+    Push,
     FinishLine,
     Verify,
     ReadMailmaps,
@@ -45,7 +44,7 @@ pub enum Call {
     PushCount,
     /// Calls that accept or write nothing and so don't allocate, and other calls that don't.
     Nothing,
-    Unrefusable,
+    NoMemory,
     /// Allocations of this program: before all calls, just before and just after the calls that accept or write
     /// nothing, and just after the other calls that don't allocate.
     Before,
@@ -56,53 +55,6 @@ pub enum Call {
 
 impl fmt::Display for Call {
     fn fmt<W: fmt::Write>(&self, f: &mut fmt::Formatter<W>) -> fmt::Result {
-        f.write_str(match self {
-            Call::New => "Snapshot::new",
-            Call::FromBytes => "Snapshot::from_bytes",
-            Call::Entries => "Snapshot::entries",
-            Call::TryClone => "Snapshot::try_clone",
-            Call::Write => "Snapshot::write",
-            Call::Merge => "Snapshot::merge",
-            Call::MergeInPlace => "Snapshot::merge, in place",
-            Call::MergeAnew => "Snapshot::merge, texts given up",
-            Call::MergeSources => "Snapshot::merge_sources",
-            Call::FirstSource => "Snapshot::merge_sources, first source",
-            Call::ThirdSource => "Snapshot::merge_sources, third source",
-            Call::TryResolve => "Snapshot::try_resolve",
-            Call::Resolve => "Snapshot::resolve",
-            Call::ResolveNothing => "Snapshot::resolve, nothing mapped",
-            Call::ResolveCow => "Snapshot::resolve_cow",
-            Call::SignatureTryClone => "snapshot::Signature::try_clone",
-            Call::FromCow => "actor::Signature::from_cow",
-            Call::Check => "check::check",
-            Call::Stream => "check::ContactStream",
-            Call::Compact => "check::compact",
-            Call::NewStream => "check::ContactStream::new",
-            Call::PushToStream => "check::ContactStream::push",
-            Call::FinishLine => "check::ContactStream::finish_line",
-            Call::Verify => "verify::verify",
-            Call::ReadMailmaps => "verify::Mailmaps::read",
-            Call::Verification => "verify::Verification::new",
-            Call::Explanations => "explain::Explanations::new",
-            Call::Prune => "verify::prune",
-            Call::Unneeded => "needs::unneeded",
-            Call::CountContacts => "counter::ContactCounter",
-            Call::Suggest => "suggestions::suggest",
-            Call::OtherGitAnswers => "git_answers::other_git_answers",
-            Call::PushEntry => "text::push_entry",
-            Call::PushCount => "text::push_count",
-            Call::Nothing => "a call that accepts or writes nothing",
-            Call::Unrefusable => "a call that takes no memory",
-            Call::Before => "a request before all calls",
-            Call::AheadOfNothing => "the request ahead of the calls that accept or write nothing",
-            Call::AfterNothing => "the request after the calls that accept or write nothing",
-            Call::AfterAll => "the request after the calls that take none",
-        })
-    }
-}
-
-impl fmt::Debug for Call {
-    fn fmt<W: fmt::Write>(&self, f: &mut fmt::Formatter<W>) -> fmt::Result {
-        fmt::Display::fmt(self, f)
+        write!(f, "{self:?}")
     }
 }

@@ -15,9 +15,7 @@ mod samples;
 mod unrefusable;
 
 use call::Call;
-use gix_mailmap::Snapshot;
 use run::{Run, Wrong};
-use samples::team;
 use std::alloc::Global;
 use std::io::Read;
 use std::process::ExitCode;
@@ -51,12 +49,7 @@ fn walk(run: &mut Run, alloc: Global, before: usize) -> Result<(), Wrong> {
     for _ in 0..before {
         run.request(alloc, Call::Before)?;
     }
-    let team = refusable::build(run, alloc, &team())?;
-    judge(run, alloc, &team)?;
+    let team = refusable::judge(run, alloc)?;
+    unrefusable::judge(run, alloc, &team)?;
     run.request(alloc, Call::AfterAll)
-}
-
-fn judge(run: &mut Run, alloc: Global, team: &Snapshot) -> Result<(), Wrong> {
-    refusable::judge(run, alloc, team)?;
-    unrefusable::judge(run, alloc, team)
 }

@@ -1,17 +1,15 @@
 //! The calls that allocate, one after another.
 
 use crate::call::Call;
-use crate::run::{Run, Wrong, leaves};
-use crate::samples::{
-    ANSWER, CONTACTS, FAULTY, HISTORY, JANE, LINE, NOBODY, PARTS, TEAM, later, team, three, two,
-};
-use gix_mailmap::check::ContactStream;
+use crate::run::{Run, Wrong};
+use crate::samples::{CONTACTS, FAULTY, HISTORY, JANE, NOBODY, PARTS, TEAM, name, named, team};
+use gix_mailmap::check::{self, ContactStream};
 use gix_mailmap::needs::unneeded;
 use gix_mailmap::snapshot::{Source, WriteError};
 use gix_mailmap::verify::{prune, verify};
-use gix_mailmap::{Entry, Snapshot, actor, check};
+use gix_mailmap::{Entry, Snapshot, actor};
 use mailmap_contacts::counter::{ContactCounter, Contacts};
-use mailmap_suggestions::git_answers::other_git_answers;
+use mailmap_suggestions::answers::other_git_answers;
 use mailmap_suggestions::suggestions::suggest;
 use mailmap_suggestions::text::{push_count, push_entry};
 use std::alloc::{AllocError, Global};
@@ -21,16 +19,17 @@ pub fn build(run: &mut Run, alloc: Global, entries: &[Entry<'_>]) -> Result<Snap
     run.judge(Call::New, || Snapshot::new(alloc, entries.iter().copied()))
 }
 
-/// Makes these calls except the first, which built the team.
-pub fn judge(run: &mut Run, alloc: Global, team: &Snapshot) -> Result<(), Wrong> {
-    read_and_write(run, alloc, team)?;
-    merge(run, alloc, Call::Merge, team, &later())?;
-    merge_small(run, alloc)?;
+/// Makes these calls, and returns the team's snapshot.
+pub fn judge(run: &mut Run, alloc: Global) -> Result<Snapshot, Wrong> {
+    let team = build(run, alloc, &team())?;
+    read_and_write(run, alloc, &team)?;
+    merge_batches(run, alloc, &team)?;
     merge_sources(run, alloc)?;
-    resolve(run, alloc, team)?;
+    resolve(run, alloc, &team)?;
     answer(run, alloc)?;
     verify_and_prune(run, alloc)?;
-    suggest_lines(run, alloc)
+    suggest_lines(run, alloc)?;
+    Ok(team)
 }
 
 fn read_and_write(run: &mut Run, alloc: Global, snapshot: &Snapshot) -> Result<(), Wrong> {
@@ -67,20 +66,37 @@ fn merge(
         return Ok(());
     }
     run.refuse(call)?;
-    leaves(call, copy == *snapshot)?;
+    if copy != *snapshot {
+        return Err(Wrong::Change(call));
+    }
     copy.merge(entries.iter().copied())
         .map_err(|_| Wrong::Want(call))
 }
 
-// A merge that is made in place: a new name and a new email, before existing emails. And a merge that discards replaced
-// texts, and so rebuilds the snapshot.
-fn merge_small(run: &mut Run, alloc: Global) -> Result<(), Wrong> {
-    let stood = build(run, alloc, &three())?;
-    merge(run, alloc, Call::MergeInPlace, &stood, &two())?;
-    let long = [Entry::change_name_by_email(b"A long name", b"a")];
-    let short = [Entry::change_name_by_email(b"N", b"a")];
-    let worn = build(run, alloc, &long)?;
-    merge(run, alloc, Call::MergeAnew, &worn, &short)
+static LONG: [u8; 9_000] = [b'N'; 9_000];
+
+// Three merges. One builds new tables: it has a new email, and a known one with an overridden field, an overridden name
+// and a new name. One has a few entries, which are put into a copy of the tables: a new name and a new email, before
+// existing emails. One has a single entry, which replaces a text by one so long that the tables are built anew after it,
+// if there is memory for that.
+fn merge_batches(run: &mut Run, alloc: Global, team: &Snapshot) -> Result<(), Wrong> {
+    let later = [
+        name(b"Ann", b"ann@example.com"),
+        name(b"Joseph", b"BUGS@example.com"),
+        named(b"jd@example.com", b"JANE", b"bugs@example.com"),
+        named(b"bob@example.com", b"Bob", b"bugs@example.com"),
+    ];
+    merge(run, alloc, Call::Merge, team, &later)?;
+    let three = [
+        name(b"Ann", b"a@x"),
+        name(b"Bob", b"b@x"),
+        name(b"Cid", b"c@x"),
+    ];
+    let stood = build(run, alloc, &three)?;
+    let two = [named(b"anna@x", b"Anna", b"A@x"), name(b"Abe", b"aa@x")];
+    merge(run, alloc, Call::MergeFew, &stood, &two)?;
+    let worn = build(run, alloc, &[name(&LONG[..3_000], b"a")])?;
+    merge(run, alloc, Call::MergeOne, &worn, &[name(&LONG, b"a")])
 }
 
 // Merges three sources. The one in the middle has no entry, so it is always merged. The last one that was merged must
@@ -94,20 +110,18 @@ fn merge_sources(run: &mut Run, alloc: Global) -> Result<(), Wrong> {
     let mut snapshot = Snapshot::empty(alloc);
     let mut made = [false; 3];
     snapshot.merge_sources(&sources, &mut made);
-    let m = names(&snapshot, b"M");
+    let m = lists_only(&snapshot, b"M");
     match made {
         [true, true, true] if m => Ok(()),
         [false, true, true] if m => run.refuse(Call::FirstSource),
-        [true, true, false] if names(&snapshot, b"N") => run.refuse(Call::ThirdSource),
+        [true, true, false] if lists_only(&snapshot, b"N") => { run.refuse(Call::ThirdSource) }
         _ => Err(Wrong::Change(Call::MergeSources)),
     }
 }
 
 // Whether a snapshot lists just this name for `a@x`.
-fn names(snapshot: &Snapshot, name: &[u8]) -> bool {
-    snapshot
-        .iter()
-        .eq([Entry::change_name_by_email(name, b"a@x")].into_iter())
+fn lists_only(snapshot: &Snapshot, new_name: &[u8]) -> bool {
+    snapshot.iter().eq([name(new_name, b"a@x")].into_iter())
 }
 
 // Resolves signatures that are mapped, and one that is only copied, and copies such signatures.
@@ -117,10 +131,8 @@ fn resolve(run: &mut Run, alloc: Global, team: &Snapshot) -> Result<(), Wrong> {
     let _answer = run.judge(Call::ResolveNothing, || team.resolve(alloc, NOBODY))?;
     let jane = run.judge(Call::ResolveCow, || team.resolve_cow(alloc, JANE))?;
     let _copy = run.judge(Call::SignatureTryClone, || jane.try_clone(alloc))?;
-    let _owned = run.judge(
-        Call::FromCow,
-        || actor::Signature::from_cow(alloc, NOBODY.into()),
-    )?;
+    let owned = || actor::Signature::from_cow(alloc, NOBODY.into());
+    let _owned = run.judge(Call::FromCow, owned)?;
     Ok(())
 }
 
@@ -132,9 +144,14 @@ fn answer(run: &mut Run, alloc: Global) -> Result<(), Wrong> {
     let _answers = run.judge(Call::Stream, || streamed(alloc))?;
     let mut stream = run.judge(Call::NewStream, || ContactStream::new(alloc, &[TEAM]))?;
     let mut text = Vec::new(alloc);
-    let _taken = run.judge(Call::PushToStream, || stream.push(LINE, &mut text))?;
+    let line = b"bob <BUGS@example.com>";
+    let _taken = run.judge(Call::Push, || stream.push(line, &mut text))?;
     run.judge(Call::FinishLine, || stream.finish_line(&mut text))?;
-    leaves(Call::FinishLine, text.as_slice() == ANSWER)
+    if text.as_slice() == b"Joe R. Developer <joe@example.com>\n".as_slice() {
+        Ok(())
+    } else {
+        Err(Wrong::Change(Call::FinishLine))
+    }
 }
 
 fn streamed(alloc: Global) -> Result<Vec<u8>, AllocError> {
@@ -149,33 +166,26 @@ fn streamed(alloc: Global) -> Result<Vec<u8>, AllocError> {
 
 // Verifies two mailmaps, prunes one, and finds the lines that no contact needs.
 fn verify_and_prune(run: &mut Run, alloc: Global) -> Result<(), Wrong> {
-    let _count = run.judge(Call::Verify, || Ok(verify(alloc, &[TEAM, FAULTY])?.len()))?;
+    let both = [TEAM, FAULTY];
+    let _count = run.judge(Call::Verify, || Ok(verify(alloc, &both)?.len()))?;
     let _mailmap = run.judge(Call::Prune, || prune(alloc, FAULTY))?;
-    let _lines = run.judge(
-        Call::Unneeded,
-        || unneeded(alloc, &[TEAM, FAULTY], CONTACTS),
-    )?;
+    let _lines = run.judge(Call::Unneeded, || unneeded(alloc, &both, CONTACTS))?;
     Ok(())
 }
 
 // Suggests lines for contacts, and finds those that git answers otherwise. Writes such lines and counts.
 fn suggest_lines(run: &mut Run, alloc: Global) -> Result<(), Wrong> {
+    let both = [TEAM, FAULTY];
     let contacts = run.judge(Call::CountContacts, || counted(alloc))?;
-    let _count = run.judge(
-        Call::Suggest,
-        || Ok(suggest(alloc, &[TEAM, FAULTY], &contacts)?.len()),
-    )?;
-    let _count = run.judge(
-        Call::OtherGitAnswers,
-        || Ok(other_git_answers(alloc, &[TEAM, FAULTY], &contacts)?.len()),
-    )?;
+    let suggested = || Ok(suggest(alloc, &both, &contacts)?.len());
+    let _count = run.judge(Call::Suggest, suggested)?;
+    let others = || Ok(other_git_answers(alloc, &both, &contacts)?.len());
+    let _count = run.judge(Call::OtherGitAnswers, others)?;
     let mut text = Vec::new(alloc);
     run.judge(Call::PushEntry, || push_entry(&mut text, &team()[1], true))?;
     let mut text = Vec::new(alloc);
-    run.judge(
-        Call::PushCount,
-        || push_count(&mut text, 12, b"Jane Doe", b"jane@example.com", true),
-    )
+    let pushed = || push_count(&mut text, 12, b"Jane Doe", b"jane@example.com", true);
+    run.judge(Call::PushCount, pushed)
 }
 
 fn counted(alloc: Global) -> Result<Contacts, AllocError> {

@@ -16,15 +16,6 @@ pub enum Wrong {
     Change(Call),
 }
 
-/// Fails unless a call left what it should.
-pub fn leaves(call: Call, is_right: bool) -> Result<(), Wrong> {
-    if is_right {
-        Ok(())
-    } else {
-        Err(Wrong::Change(call))
-    }
-}
-
 /// The call that was refused, if any.
 #[derive(Drop)]
 pub struct Run {

@@ -9,6 +9,30 @@ Joe R. Developer <joe@example.com> <bugs@example.com>
 Jane Doe <jane@example.com> Jane <bugs@example.com>
 ";
 
+/// The entries of that mailmap.
+pub fn team() -> [Entry<'static>; 2] {
+    let old = b"bugs@example.com";
+    [
+        Entry::change_name_and_email_by_email(b"Joe R. Developer", b"joe@example.com", old),
+        Entry::change_name_and_email_by_name_and_email(
+            b"Jane Doe",
+            b"jane@example.com",
+            b"Jane",
+            old,
+        ),
+    ]
+}
+
+/// An entry that gives an email a new name.
+pub fn name<'a>(new_name: &'a [u8], email: &'a [u8]) -> Entry<'a> {
+    Entry::change_name_by_email(new_name, email)
+}
+
+/// An entry that gives a name a new email.
+pub fn named<'a>(new_email: &'a [u8], old_name: &'a [u8], email: &'a [u8]) -> Entry<'a> {
+    Entry::change_email_by_name_and_email(new_email, old_name, email)
+}
+
 /// Contact lines, and a line that is no contact.
 pub const CONTACTS: &[u8] = b"bob <BUGS@example.com>\nJANE <bugs@example.com>\nnot a contact\n";
 
@@ -19,11 +43,6 @@ pub static PARTS: [&[u8]; 4] = [
     b"JANE <bugs@example.com>\n",
     b"not a contact",
 ];
-
-/// A contact line without a line feed.
-pub const LINE: &[u8] = b"bob <BUGS@example.com>";
-
-pub const ANSWER: &[u8] = b"Joe R. Developer <joe@example.com>\n";
 
 /// A mailmap with a finding of each kind.
 pub const FAULTY: &[u8] = b"Ann <ann@example.com>
@@ -40,50 +59,6 @@ pub static HISTORY: [&[u8]; 4] = [
     b"Jane Doe <jd@example.com>",
     b"E <eve@example.com>",
 ];
-
-pub fn team() -> [Entry<'static>; 2] {
-    [
-        Entry::change_name_and_email_by_email(
-            b"Joe R. Developer",
-            b"joe@example.com",
-            b"bugs@example.com",
-        ),
-        Entry::change_name_and_email_by_name_and_email(
-            b"Jane Doe",
-            b"jane@example.com",
-            b"Jane",
-            b"bugs@example.com",
-        ),
-    ]
-}
-
-/// Entries to merge after those: a new email, and a known one with an overridden field, an overridden name and a new
-/// name.
-pub fn later() -> [Entry<'static>; 4] {
-    [
-        Entry::change_name_by_email(b"Ann", b"ann@example.com"),
-        Entry::change_name_by_email(b"Joseph", b"BUGS@example.com"),
-        Entry::change_email_by_name_and_email(b"jd@example.com", b"JANE", b"bugs@example.com"),
-        Entry::change_email_by_name_and_email(b"bob@example.com", b"Bob", b"bugs@example.com"),
-    ]
-}
-
-/// Entries for three emails.
-pub fn three() -> [Entry<'static>; 3] {
-    [
-        Entry::change_name_by_email(b"Ann", b"a@x"),
-        Entry::change_name_by_email(b"Bob", b"b@x"),
-        Entry::change_name_by_email(b"Cid", b"c@x"),
-    ]
-}
-
-/// Entries to merge after those: a new name for the first email, and a new email.
-pub fn two() -> [Entry<'static>; 2] {
-    [
-        Entry::change_email_by_name_and_email(b"anna@x", b"Anna", b"A@x"),
-        Entry::change_name_by_email(b"Abe", b"aa@x"),
-    ]
-}
 
 /// A signature whose name and email are mapped.
 pub const JANE: SignatureRef<'static> = SignatureRef {

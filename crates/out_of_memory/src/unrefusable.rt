@@ -7,7 +7,7 @@
 use crate::call::Call;
 use crate::refusable::{build, clone};
 use crate::run::{Run, Wrong};
-use crate::samples::{FAULTY, JANE, NOBODY, TEAM, team};
+use crate::samples::{FAULTY, JANE, NOBODY, TEAM, named, team};
 use gix_mailmap::actor::SignatureRef;
 use gix_mailmap::explain::Explanations;
 use gix_mailmap::fold::Steps;
@@ -15,12 +15,11 @@ use gix_mailmap::snapshot::{Source, WriteError};
 use gix_mailmap::verify::{Findings, Mailmaps, Verification, prune, verify};
 use gix_mailmap::{Entry, Snapshot, actor};
 use std::alloc::Global;
-use std::hash::{DefaultHasher, Hash, Hasher};
+use std::hash::{DefaultHasher, Hash};
 
 /// Makes the last allocations before these calls, and then the calls.
 pub fn judge(run: &mut Run, alloc: Global, team: &Snapshot) -> Result<(), Wrong> {
-    let jane = [Entry::change_email_by_name_and_email(b"n@y", b"Jane", b"x@y")];
-    let respelled = build(run, alloc, &jane)?;
+    let respelled = build(run, alloc, &[named(b"n@y", b"Jane", b"x@y")])?;
     let jane = run.judge(Call::ResolveCow, || team.resolve_cow(alloc, JANE))?;
     let buffers: [&[u8]; 2] = [TEAM, FAULTY];
     let mailmaps = run.judge(Call::ReadMailmaps, || Mailmaps::read(alloc, &buffers))?;
@@ -35,7 +34,7 @@ pub fn judge(run: &mut Run, alloc: Global, team: &Snapshot) -> Result<(), Wrong>
         && explanations.of(JANE.name, JANE.email).is_some()
         && explanations.needs(JANE.name, JANE.email).first.is_some()
         && has_no_line(alloc);
-    wants(Call::Unrefusable, succeed)
+    wants(Call::NoMemory, succeed)
 }
 
 /// A signature whose email has an entry, but only for another name.
@@ -76,8 +75,7 @@ fn merges_nothing(snapshot: &mut Snapshot) -> bool {
 fn looks_up(snapshot: &Snapshot) -> bool {
     let entries = team();
     let mut steps = Steps::new();
-    let mut hasher = DefaultHasher::new();
-    snapshot.hash(&mut hasher);
+    snapshot.hash(&mut DefaultHasher::new());
     snapshot.try_resolve_ref(JANE).is_some()
         && snapshot
             .try_resolve_contact(JANE.name, JANE.email)

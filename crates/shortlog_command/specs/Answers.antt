@@ -1,21 +1,34 @@
 -- What is printed for an answer.
-use Rattle.std.specs.Prelude.{ℕ, true, false, None, Some, []}
+use Rattle.std.specs.Prelude.{Bool, true, List, [], None, Some}
+use Rattle.mailmap_snapshot.specs.Entries.{Mapping}
 use Rattle.mailmap_snapshot.specs.Folding.{Text}
-use Rattle.shortlog_command.specs.Counts.{Counted}
-use Rattle.shortlog_command.specs.Shortlog.{answer_text}
+use Rattle.std.specs.Ordering.{on}
+use Rattle.std.specs.declared.cmp.Ordering.{Ordering}
+use Rattle.contact_counter.specs.Contacts.{Contact, contact_cmp, Tally, answer_to}
+use Rattle.contact_counter.specs.declared.occurrences.Occurrences.{Occurrences}
+use Rattle.shortlog_command.specs.Shortlog.{Counted, answer_text}
 use Rattle.shortlog_command.specs.declared.answer.Answer.{Answer}
-use Rattle.shortlog_command.specs.declared.counts.Tally.{Tally}
 
 abbrev pub printed : Answer → Text
 printed a = elim a.email [
-  | None ↦ answer_text false a.name.now []
-  | Some email ↦ answer_text true a.name.now email.now
+  | None ↦ a.name.now
+  | Some email ↦ answer_text true (record { name = a.name.now; email = email.now })
 ]
 
--- the specification's view of an answer's tally
-abbrev pub answer_counted : Tally Answer → Counted
-answer_counted t = record { text = printed t.text; count = t.count }
+-- a text, as something to be counted: a name without an email
+abbrev pub alone : Text → Contact
+alone text = record { name = text; email = [] }
 
--- the view of an entry of the map
-abbrev pub answer_entry : Answer × ℕ → Counted
-answer_entry e = record { text = printed e.0; count = e.1 }
+-- the tally of the text that a contact counts for
+abbrev pub text_tally : Bool → List Mapping → Tally → Tally
+text_tally with_email h t = record { contact = alone (answer_text with_email (answer_to h t.contact)); seen = t.seen }
+
+abbrev pub answer_cmp : Answer → Answer → Ordering
+answer_cmp = on (λ a. alone (printed a)) contact_cmp
+
+-- the views of an entry of the map
+abbrev pub answer_tally : Answer × Occurrences → Tally
+answer_tally e = record { contact = alone (printed e.0); seen = e.1 }
+
+abbrev pub answer_counted : Answer × Occurrences → Counted
+answer_counted e = record { text = printed e.0; count = e.1.count }

@@ -1,40 +1,33 @@
 -- How often each answer to contacts occurs, and the lines that show it.
-use Rattle.std.specs.Prelude.{◌≡◌, ◌<◌, ℕ, Bool, if◌then◌else◌, Option, None, Some, List, [], ◌∷◌, ◌++◌, Contains, codes, count_by, decimal, drop, length, map, unwrap_or}
+use Rattle.std.specs.Prelude.{◌≡◌, ◌<◌, ℕ, Bool, if◌then◌else◌, Option, option_map, List, [], ◌∷◌, ◌++◌, Contains, codes, count_by, decimal, drop, length, map}
 use Rattle.std.specs.List.{AllByRecursion, filter_map, flat_map}
 use Rattle.std.specs.List.Sorted.{IsStrictlySortedBy}
 use Rattle.std.specs.Ordering.{nat_cmp, ordering_then}
 use Rattle.std.specs.Str.{bytes_eq}
 use Rattle.std.specs.declared.cmp.Ordering.{Ordering}
-use Rattle.mailmap_snapshot.specs.Contacts.{contact_lines}
+use Rattle.bstr.specs.Text.{lines_of}
 use Rattle.mailmap_snapshot.specs.Entries.{Mapping}
 use Rattle.mailmap_snapshot.specs.Folding.{Text, text_cmp}
-use Rattle.mailmap_snapshot.specs.Semantics.{Fields, fields_for}
-use Rattle.mailmap_snapshot.specs.Lines.{ParsedContact, Absent, Unclosed, Closed, contact_in, mappings_of}
-use Rattle.shortlog_command.specs.Counts.{Counted}
+use Rattle.mailmap_snapshot.specs.Lines.{contact_in, mappings_of}
+use Rattle.contact_counter.specs.Contacts.{Contact, answer_to, contact_on}
+
+-- a text, and how often it occurs
+pub record Counted : Type 0 where
+  pub text : Text
+  pub count : ℕ
 
 -- a name alone, or with its email in brackets after a space, even if the name is empty
-abbrev pub answer_text : Bool → Text → Text → Text
-answer_text with_email name email = if with_email then name ++ 32 ∷ 60 ∷ email ++ 62 ∷ [] else name
+abbrev pub answer_text : Bool → Contact → Text
+answer_text with_email c = if with_email then c.name ++ 32 ∷ 60 ∷ c.email ++ 62 ∷ [] else c.name
 
--- the same, with the fields overridden by a mailmap's
-abbrev pub replaced_text : Bool → Fields → Text → Text → Text
-replaced_text with_email f name email = answer_text with_email (unwrap_or f.name name) (unwrap_or f.email email)
-
--- the text that a line starting with this contact counts for
-abbrev pub contact_counted : Bool → List Mapping → ParsedContact → Option Text
-contact_counted with_email h Absent = None
-contact_counted with_email h Unclosed = None
-contact_counted with_email h (Closed name email rest) =
-    Some (replaced_text with_email (fields_for h name email) name email)
-
--- the text that a line counts for, if any
+-- the text that a line counts for: that of the answer to its contact, if it has one
 abbrev pub line_counted : Bool → List Mapping → Text → Option Text
-line_counted with_email h line = contact_counted with_email h (contact_in line)
+line_counted with_email h line = option_map (λ c. answer_text with_email (answer_to h c)) (contact_on (contact_in line))
 
 -- the answers to all contacts among the lines, with the mailmaps in the buffers
 abbrev pub answers_counted : Bool → List Text → Text → List Text
 answers_counted with_email buffers contacts =
-    filter_map (line_counted with_email (flat_map mappings_of buffers)) (contact_lines contacts)
+    filter_map (line_counted with_email (flat_map mappings_of buffers)) (lines_of contacts)
 
 -- how often a text occurs among others
 abbrev pub times : Text → List Text → ℕ

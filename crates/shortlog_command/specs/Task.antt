@@ -42,8 +42,7 @@ is_option letter = letter == 110 || letter == 101 || letter == 115
 
 -- the kind of an argument where an option can stand
 abbrev pub word_of : Text → Word
-word_of argument =
-    if same_text argument (codes "--") then word.End
+word_of argument = if same_text argument (codes "--") then word.End
     else if same_text argument (codes "-h") || same_text argument (codes "--help") then word.Help
     else if same_text argument (codes "--version") then word.Version
     else if is_dashed argument then (if list_all is_option (drop 1 argument) then word.Letters else word.Unknown)
@@ -79,27 +78,18 @@ counts_contacts Help = false
 counts_contacts Version = false
 counts_contacts (Shortlog options) = true
 
--- reading the input fails: it can't be read, or memory runs out
-abbrev pub EndsReading : Failure → Type 0
-EndsReading (Input cause) = ⊤
-EndsReading Memory = ⊤
-EndsReading (File number cause) = ⊥
-EndsReading Output = ⊥
-
 -- The text is the shortlog of all contacts on the input, using the mailmaps at these paths. If the input is unknown, it
 -- is a shortlog of some contacts.
 abbrev pub IsAnswer : (Text → AtPath) → Option Text → Mode → List Text → Text → Type 0
 IsAnswer at input Help paths text = text ≡ USAGE.now
 IsAnswer at input Version paths text = text ≡ codes "mailmap_shortlog " ++ VERSION.now ++ 10 ∷ []
-IsAnswer at input (Shortlog options) paths text = (mailmaps : List Text)
-    × AreRead at paths mailmaps
+IsAnswer at input (Shortlog options) paths text = (mailmaps : List Text) × AreRead at paths mailmaps
     × ((contacts : Text) × IfSome input (λ bytes. contacts ≡ bytes)
     × IsShortlog options.by_count (answers_counted options.with_email mailmaps contacts) text)
 
 -- Such a task can fail in this way. A file that can't be read is named by its number among the paths, from 1.
 abbrev pub FailsFor : (Text → AtPath) → Mode → List Text → Failure → Type 0
-FailsFor at mode paths (File number cause) =
-    IsTrue (counts_contacts mode) × NamesFile at paths (File number cause)
+FailsFor at mode paths (File number cause) = IsTrue (counts_contacts mode) × NamesFile at paths (File number cause)
 FailsFor at mode paths (Input cause) = IsTrue (counts_contacts mode)
 FailsFor at mode paths Memory = ⊤
 FailsFor at mode paths Output = ⊤

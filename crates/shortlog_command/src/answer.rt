@@ -2,12 +2,12 @@
 ghost use Rattle.std.specs.Prelude.{◌≡◌, ◌++◌};
 ghost use Rattle.std.proofs.Common.{rules};
 ghost use Rattle.std.specs.Cmp.{partial_order_from_own_ties};
-ghost use Rattle.std.specs.Cmp.Lexicographic.{slice_cmp};
 ghost use Rattle.std.specs.Cmp.Rules.{comparing};
 ghost use Rattle.std.specs.List.{flat_map};
-ghost use Rattle.std.specs.Ordering.{as_partial_cmp, eq_by_cmp, nat_cmp, on};
+ghost use Rattle.std.specs.Ordering.{as_partial_cmp, eq_by_cmp};
 ghost use Rattle.mailmap_snapshot.specs.Folding.{text_cmp};
-ghost use Rattle.shortlog_command.specs.Answers.{printed};
+ghost use Rattle.contact_counter.proofs.Entries.{contact_total};
+ghost use Rattle.shortlog_command.specs.Answers.{answer_cmp, printed};
 
 use std::cmp::Ordering;
 
@@ -23,8 +23,8 @@ pub struct Answer<'a> {
 }
 
 impl<'a> Answer<'a> {
-    /// The parts of the text. As in git, a space precedes the email even if the name is empty.
-    pub(crate) fn parts(&self) -> [&'a [u8]; 4]
+    // The parts of its text. As in git, a space precedes the email even if the name is empty.
+    fn parts(&self) -> [&'a [u8]; 4]
         ensures { flat_map (λ p. p.now) result ≡ printed self.now }
     {
         match self.email {
@@ -35,9 +35,9 @@ impl<'a> Answer<'a> {
 }
 
 impl PartialEq for Answer<'_> {
-    ghost eq = { eq_by_cmp (on printed (slice_cmp nat_cmp)) };
+    ghost eq = { eq_by_cmp answer_cmp };
 
-    ghost laws = { Prim.search (comparing, rules) };
+    ghost laws = { Prim.search (comparing, rules, contact_total) };
 
     fn eq(&self, other: &Self) -> bool {
         self.cmp(other).is_eq()
@@ -45,13 +45,14 @@ impl PartialEq for Answer<'_> {
 }
 
 impl Eq for Answer<'_> {
-    ghost laws = { Prim.search (comparing, rules) };
+    ghost laws = { Prim.search (comparing, rules, contact_total) };
 }
 
 impl PartialOrd for Answer<'_> {
-    ghost partial_cmp = { as_partial_cmp (on printed (slice_cmp nat_cmp)) };
+    ghost partial_cmp = { as_partial_cmp answer_cmp };
 
-    ghost laws = { partial_order_from_own_ties (Prim.search (comparing, rules)) (Prim.search (comparing, rules)) };
+    ghost laws = { partial_order_from_own_ties (Prim.search (comparing, rules, contact_total))
+        (Prim.search (comparing, rules)) };
 
     fn partial_cmp(&self, other: &Self) -> Option<Ordering> {
         Some(self.cmp(other))
@@ -59,14 +60,15 @@ impl PartialOrd for Answer<'_> {
 }
 
 impl Ord for Answer<'_> {
-    ghost cmp = { on printed (slice_cmp nat_cmp) };
+    ghost cmp = { answer_cmp };
 
-    ghost total = { Prim.search (comparing, rules) };
+    ghost total = { Prim.search (comparing, rules, contact_total) };
 
     ghost matches_partial_cmp = { Prim.search (comparing, rules) };
 
     ghost matches_eq = { Prim.search (comparing, rules) };
 
+    #[tactic(auto, using(crate::proofs::Ordered::then_nothing))]
     fn cmp(&self, other: &Self) -> Ordering {
         compare_parts(&[], &self.parts(), &[], &other.parts())
     }

@@ -3,9 +3,5 @@
 #![tactic(auto)]
 
 pub mod answer;
-pub mod answers;
-mod counter;
-pub mod counts;
-pub mod reading;
 pub mod shortlog;
 pub mod task;

@@ -1,29 +1,38 @@
 //! A shortlog: one line for each distinct answer, with its count.
-ghost use Rattle.std.specs.Prelude.{◌≡◌, ◌≢◌, ◌⊎◌, ◌++◌, ℕ, IfErr, IfOk, IsErr, IsErrOf, IsOkUnless, OnErr, OnOk, codes, drop, map, take, true};
+ghost use Rattle.std.specs.Prelude.{◌≡◌, ◌⊎◌, ◌++◌, ℕ, IfErr, IfOk, IsOkUnless, OnErr, OnOk, codes, decimal, drop};
+ghost use Rattle.std.specs.Prelude.{map, take};
 ghost use Rattle.std.specs.Io.KnownBytes.{Appends};
 ghost use Rattle.std.specs.List.{flat_map};
-ghost use Rattle.std.specs.List.Sorted.{IsPermutation, IsStrictlySortedBy};
-ghost use Rattle.mailmap_snapshot.specs.Contacts.{contact_lines as lines_of};
-ghost use Rattle.mailmap_snapshot.specs.Folding.{Text, text_cmp};
-ghost use Rattle.mailmap_batches.specs.Batches.{IsAscending};
-ghost use Rattle.command_line.specs.Printing.{IsUnderway, Prints, PrintsFront};
-ghost use Rattle.shortlog_command.specs.Answers.{answer_counted, answer_entry};
-ghost use Rattle.shortlog_command.specs.Counts.{AreCounts};
-ghost use Rattle.shortlog_command.specs.Shortlog.{IsShortlog, answers_counted, counted_text, order};
+ghost use Rattle.std.specs.List.Sorted.{IsPermutation, IsSortedBy, IsStrictlySortedBy};
+ghost use Rattle.std.specs.Map.{keys_of};
+ghost use Rattle.std.specs.Ordering.{is_lt};
+ghost use Rattle.bstr.specs.Text.{lines_of};
+ghost use Rattle.mailmap_snapshot.specs.Folding.{Text};
+ghost use Rattle.command_line.specs.Leaving.{LeavesText};
+ghost use Rattle.command_line.specs.Printing.{IsUnderway};
+ghost use Rattle.contact_counter.specs.Contacts.{answer_to};
+ghost use Rattle.contact_counter.specs.Counts.{AreContactsOf, SameTallies};
+ghost use Rattle.shortlog_command.specs.Answers.{answer_cmp, answer_counted, answer_tally, printed, text_tally};
+ghost use Rattle.shortlog_command.specs.Shortlog.{IsShortlog, answer_text, answers_counted, count_order, counted_text, order};
 
 use crate::answer::Answer;
-use crate::answers::answers_of;
-use crate::counts::{Counts, Tally, tallies_of};
 use command_line::failure::Failure;
 use command_line::printer::Printer;
+use contact_counter::counter::Contacts;
+use contact_counter::occurrences::{Occurrences, add_to};
 use itoa::Buffer;
-use mailmap_snapshot::check::snapshot_of;
+use mailmap_snapshot::Snapshot;
+use mailmap_snapshot::check::{resolved, snapshot_of};
 use std::alloc::{AllocError, Global};
 use std::cmp::Ordering;
 use std::collections::BTreeMap;
 use std::io::Write;
 
-/// Prints the shortlog of counted lines, using the mailmaps in the buffers, of which later ones override earlier ones.
+// An answer, and how often it comes.
+type Counted<'a> = (Answer<'a>, Occurrences);
+
+/// Prints the shortlog of counted contacts, using the mailmaps in the buffers, of which later ones override earlier
+/// ones.
 ///
 /// With the buffer `Jane Doe <jane@x>`, the lines `jane <JANE@x>`, `jd <jane@x>` and `joe <joe@x>` make the shortlog
 ///
@@ -32,108 +41,150 @@ use std::io::Write;
 ///      1  joe
 /// ```
 ///
-/// with a tab after each count. A line that is no contact isn't counted. Fails if memory runs out, or if a count
-/// exceeds 64 bits, and then prints nothing.
+/// with a tab after each count. Fails if memory runs out, or if a count exceeds its type, and then prints nothing.
 ///
-/// No text is copied, so memory grows only with the mailmaps and the distinct lines, even if many contacts have one
+/// No text is copied, so memory grows only with the mailmaps and the distinct contacts, even if many of them have one
 /// long email and the shortlog is much longer.
 pub fn print_shortlog<W: Write>(
     alloc: Global,
     buffers: &[&[u8]],
-    lines: Counts,
+    contacts: &Contacts,
     by_count: bool,
     with_email: bool,
     output: &mut W,
 ) -> Result<(), Failure>
-    ensures ok { (contacts : Text) → AreCounts (lines_of contacts) lines → OnOk result (Prints
-        (IsShortlog by_count (answers_counted with_email (map (λ b. b.now) buffers.now) contacts))
-        (W.contents output.old) (W.contents output.new)) }
-    ensures breaks_off { (contacts : Text) → AreCounts (lines_of contacts) lines → IsErrOf result Failure.Output
-        → PrintsFront (IsShortlog by_count (answers_counted with_email (map (λ b. b.now) buffers.now) contacts))
-        (W.contents output.old) (W.contents output.new) }
-    ensures silent { IsErr result → ¬ IsErrOf result Failure.Output → output.new ≡ output.old }
+    ensures leaves { (text : Text) → AreContactsOf (lines_of text) contacts.now → LeavesText
+        (IsShortlog by_count (answers_counted with_email (map (λ b. b.now) buffers.now) text))
+        W.contents output.old output.new result }
     ensures only { IfErr result (λ e. (e ≡ Failure.Memory) ⊎ (e ≡ Failure.Output)) }
 {
     let snapshot = snapshot_of(alloc, buffers)?;
-    let tallies = lines.into_tallies(alloc)?;
-    let answers = answers_of(alloc, &snapshot, tallies.as_slice(), with_email)?;
+    let answers = answers_of(alloc, &snapshot, contacts, with_email)?;
     let listed = listed(alloc, answers, by_count)?;
     let mut printer = Printer::new(alloc)?;
     print_lines(&mut printer, listed.as_slice(), output)
 }
 
+/// Maps contacts to answers and adds up the counts of equal answers.
+///
+/// Each distinct contact is looked up once.
+pub fn answers_of<'a>(
+    alloc: Global,
+    snapshot: &'a Snapshot,
+    contacts: &'a Contacts,
+    with_email: bool,
+) -> Result<BTreeMap<Answer<'a>, Occurrences>, AllocError>
+    ensures { IfOk result (λ answers. SameTallies (map answer_tally answers.entries)
+        (map (text_tally with_email snapshot.now) contacts.now.tallies)) }
+{
+    let mut answers = BTreeMap::new(alloc);
+    for ((name, email), seen) in contacts.tallies().iter() {
+        let answer = answer_to(snapshot, name.as_slice(), email.as_slice(), with_email);
+        add_to(&mut answers, answer, *seen)?;
+    }
+    Ok(answers)
+}
+
+fn answer_to<'a>(
+    snapshot: &'a Snapshot,
+    name: &'a [u8],
+    email: &'a [u8],
+    with_email: bool,
+) -> Answer<'a>
+    ensures { printed result ≡ answer_text with_email
+        (answer_to snapshot.now (record { name = name.now; email = email.now })) }
+{
+    let (name, email) = resolved(snapshot, name, email);
+    let email = if with_email { Some(email) } else { None };
+    Answer { name, email }
+}
+
 // The answers with their counts: sorted by descending count and then by text, or by text alone.
 fn listed<'a>(
     alloc: Global,
-    answers: BTreeMap<Answer<'a>, u64>,
+    answers: BTreeMap<Answer<'a>, Occurrences>,
     by_count: bool,
-) -> Result<Vec<Tally<Answer<'a>>>, AllocError>
-    ensures moved { IfOk result (λ listed. IsPermutation (map answer_entry answers.entry.entries)
-        (map answer_counted listed.items)) }
-    ensures ascending { IfOk result (λ listed. IsAscending (order by_count) (map answer_counted listed.items)) }
-    ensures once { OnOk result (IsStrictlySortedBy text_cmp
-        (map (λ c. c.text) (map answer_entry answers.entry.entries))) }
+) -> Result<Vec<Counted<'a>>, AllocError>
+    ensures moved { IfOk result (λ listed. IsPermutation answers.entry.entries listed.items) }
+    ensures once { OnOk result (IsStrictlySortedBy answer_cmp (keys_of answers.entry.entries)) }
+    ensures in_order { IfOk result (λ listed. IsStrictlySortedBy (order by_count) (map answer_counted listed.items)) }
 {
-    let mut tallies = tallies_of(alloc, answers)?;
+    let mut listed = collected(alloc, answers)?;
     if !by_count {
-        return Ok(tallies);
+        return Ok(listed);
     }
-    sort_by_counts(&mut tallies)?;
-    Ok(tallies)
+    sort_by_counts(&mut listed)?;
+    Ok(listed)
 }
 
-fn sort_by_counts(tallies: &mut Vec<Tally<Answer<'_>>>) -> Result<(), AllocError>
-    ensures moved { IsPermutation tallies.old.items tallies.new.items }
-    ensures ascending { OnOk result (IsAscending (order true) (map answer_counted tallies.new.items)) }
+fn collected<'a>(
+    alloc: Global,
+    answers: BTreeMap<Answer<'a>, Occurrences>,
+) -> Result<Vec<Counted<'a>>, AllocError>
+    ensures all { IfOk result (λ listed. listed.items ≡ answers.entry.entries) }
+    ensures once { OnOk result (IsStrictlySortedBy answer_cmp (keys_of answers.entry.entries)) }
 {
-    tallies.sort_by(compare_counts)
+    answers.into_iter().collect(alloc)
 }
 
-fn compare_counts(a: &Tally<Answer<'_>>, b: &Tally<Answer<'_>>) -> Ordering
-    ensures { result ≡ order true (answer_counted a.now) (answer_counted b.now) }
+fn sort_by_counts(answers: &mut Vec<Counted<'_>>) -> Result<(), AllocError>
+    ensures moved { IsPermutation answers.old.items answers.new.items }
+    ensures sorted { OnOk result (IsSortedBy
+        (λ a b. is_lt (count_order (answer_counted a) (answer_counted b))) answers.new.items) }
 {
-    let counts = b.count.cmp(&a.count);
+    answers.sort_by(compare_counts)
+}
+
+fn compare_counts(a: &Counted<'_>, b: &Counted<'_>) -> Ordering
+    ensures { result ≡ count_order (answer_counted a.now) (answer_counted b.now) }
+{
+    let counts = b.1.count.cmp(&a.1.count);
     if counts.is_ne() {
         return counts;
     }
-    a.text.cmp(&b.text)
+    a.0.cmp(&b.0)
 }
 
 fn print_lines<W: Write>(
     printer: &mut Printer,
-    tallies: &[Tally<Answer<'_>>],
+    answers: &[Counted<'_>],
     output: &mut W,
 ) -> Result<(), Failure>
     ensures ok { OnOk result (Appends (W.contents output.old) (W.contents output.new)
-        (printer.old ++ flat_map counted_text (map answer_counted tallies.now))) }
+        (printer.old ++ flat_map counted_text (map answer_counted answers.now))) }
     ensures err { OnErr result ((count : ℕ) × Appends (W.contents output.old) (W.contents output.new)
-        (take count (printer.old ++ flat_map counted_text (map answer_counted tallies.now)))) }
+        (take count (printer.old ++ flat_map counted_text (map answer_counted answers.now)))) }
     ensures only { IsOkUnless result Failure.Output }
 {
-    for tally in tallies {
-        print_line(printer, tally, output)?;
+    let mut buffer = Buffer::new();
+    for answer in answers {
+        let digits = buffer.format(answer.1.count).as_bytes();
+        print_pieces(printer, &line_parts(answer, digits), output)?;
     }
     printer.flush(output)
 }
 
-// Prints a tally's line: its count in six columns, a tab, its text, and a line feed.
-fn print_line<W: Write>(
-    printer: &mut Printer,
-    tally: &Tally<Answer<'_>>,
-    output: &mut W,
-) -> Result<(), Failure>
-    ensures ok { OnOk result (IsUnderway (printer.old ++ counted_text (answer_counted tally.now))
-        (W.contents output.old) (W.contents output.new) printer.new) }
-    ensures err { OnErr result ((count : ℕ) × Appends (W.contents output.old) (W.contents output.new)
-        (take count (printer.old ++ counted_text (answer_counted tally.now)))) }
-    ensures only { IsOkUnless result Failure.Output }
+// The parts of an answer's line: its count in six columns, a tab, its text, and a line feed.
+fn line_parts<'a>(answer: &Counted<'a>, digits: &'a [u8]) -> [&'a [u8]; 7]
+    requires { digits.now ≡ decimal answer.now.1.count }
+    ensures { flat_map (λ p. p.now) result ≡ counted_text (answer_counted answer.now) }
 {
-    let mut buffer = Buffer::new();
-    let digits = buffer.format(tally.count).as_bytes();
-    let count = [padding(digits.len()), digits, b"\t".as_slice()];
-    print_pieces(printer, &count, output)?;
-    print_pieces(printer, &tally.text.parts(), output)?;
-    printer.print(output, b"\n")
+    let padding: &'a [u8] = padding(digits.len());
+    let tab: &'a [u8] = b"\t".as_slice();
+    let none: &'a [u8] = b"".as_slice();
+    let name = answer.0.name;
+    match answer.0.email {
+        Some(email) => [
+            padding,
+            digits,
+            tab,
+            name,
+            b" <".as_slice(),
+            email,
+            b">\n".as_slice(),
+        ],
+        None => [padding, digits, tab, name, b"\n".as_slice(), none, none],
+    }
 }
 
 // The padding of a count with so many digits, to six columns.

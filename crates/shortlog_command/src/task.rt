@@ -1,16 +1,15 @@
 //! Parses the arguments of `mailmap_shortlog`, and runs what they ask for.
-ghost use Rattle.std.specs.Prelude.{◌==◌, ◌≡◌, ◌⊎◌, ◌++◌, ◌∷◌, [], ℕ, IfErr, IfOk, IsErr, IsErrOf, IsFalse, IsTrue, Ok};
-ghost use Rattle.std.specs.Prelude.{OnOk, codes, drop, take};
-ghost use Rattle.std.specs.Io.KnownBytes.{Appends, IsAtEnd};
+ghost use Rattle.std.specs.Prelude.{◌==◌, ◌≡◌, ◌++◌, ◌∷◌, [], IfErr, IfOk, IsErrOf, IsFalse, IsTrue, Ok, OnOk, codes, drop};
+ghost use Rattle.std.specs.Io.KnownBytes.{IsAtEnd};
 ghost use Rattle.std.specs.List.{list_all, list_any};
 ghost use Rattle.command_line.specs.Failures.{IsOfFile};
 ghost use Rattle.command_line.specs.Files.{texts};
-ghost use Rattle.command_line.specs.Printing.{Prints, PrintsFront};
+ghost use Rattle.command_line.specs.Leaving.{LeavesText};
 ghost use Rattle.shortlog_command.specs.Task.{FailsFor, IsAnswer, asked, asked_of, counts_contacts, is_option, no_options, options_with, task, word_of};
 
-use crate::reading::count_lines;
 use crate::shortlog::print_shortlog;
 use command_line::VERSION;
+use command_line::counting::count_contacts;
 use command_line::failure::Failure;
 use command_line::files::{FileSystem, list_of, read_files};
 use command_line::streams::write_all;
@@ -82,7 +81,7 @@ pub fn task_of(arguments: &[Vec<u8>]) -> Result<Task<'_>, UnknownOption<'_>>
     ensures { asked_of result ≡ asked no_options (drop 1 (texts arguments.now)) }
 {
     match arguments {
-        [] => Ok(shortlog_by(NO_OPTIONS, arguments)),
+        [] => Ok(task_for(Mode::Shortlog(NO_OPTIONS), arguments)),
         [_, words @ ..] => read_options(words),
     }
 }
@@ -101,34 +100,21 @@ fn read_options(arguments: &[Vec<u8>]) -> Result<Task<'_>, UnknownOption<'_>>
     while let [argument, rest @ ..] = left {
         match word_of(argument.as_slice()) {
             Word::Letters => options = with_letters(options, argument.as_slice()),
-            Word::End => return Ok(shortlog_by(options, rest)),
-            Word::Path => return Ok(shortlog_by(options, left)),
+            Word::End => return Ok(task_for(Mode::Shortlog(options), rest)),
+            Word::Path => return Ok(task_for(Mode::Shortlog(options), left)),
             Word::Unknown => return Err(UnknownOption(argument.as_slice())),
-            Word::Help => {
-                return Ok(Task {
-                    mode: Mode::Help,
-                    paths: &[],
-                });
-            }
-            Word::Version => {
-                return Ok(Task {
-                    mode: Mode::Version,
-                    paths: &[],
-                });
-            }
+            Word::Help => return Ok(task_for(Mode::Help, &[])),
+            Word::Version => return Ok(task_for(Mode::Version, &[])),
         }
         left = rest;
     }
-    Ok(shortlog_by(options, left))
+    Ok(task_for(Mode::Shortlog(options), left))
 }
 
-fn shortlog_by(options: Options, paths: &[Vec<u8>]) -> Task<'_>
-    ensures { asked_of (Ok result) ≡ task (Mode.Shortlog options) (texts paths.now) }
+fn task_for(mode: Mode, paths: &[Vec<u8>]) -> Task<'_>
+    ensures { asked_of (Ok result) ≡ task mode (texts paths.now) }
 {
-    Task {
-        mode: Mode::Shortlog(options),
-        paths,
-    }
+    Task { mode, paths }
 }
 
 fn word_of(argument: &[u8]) -> Word
@@ -188,9 +174,9 @@ pub fn perform<F: FileSystem, R: Read, W: Write>(
     input: &mut R,
     output: &mut W,
 ) -> Result<(), Failure>
-    // Exactly the answer is written.
-    ensures prints { OnOk result (Prints (IsAnswer (F.at system.now) (R.remaining input.old) task.entry.mode
-        (texts task.entry.paths.now)) (W.contents output.old) (W.contents output.new)) }
+    // Exactly the answer is written; if writing fails, a prefix of it, and after any other failure nothing.
+    ensures leaves { LeavesText (IsAnswer (F.at system.now) (R.remaining input.old) task.entry.mode
+        (texts task.entry.paths.now)) W.contents output.old output.new result }
 
     // For a shortlog, all of the input is read before anything is written; for the other tasks, none of it, and none if
     // a mailmap can't be read.
@@ -202,32 +188,28 @@ pub fn perform<F: FileSystem, R: Read, W: Write>(
 
     // Which tasks can fail in which way. A file that can't be read is named by its number among the paths.
     ensures fails { IfErr result (FailsFor (F.at system.now) task.entry.mode (texts task.entry.paths.now)) }
-
-    // If writing fails, a prefix of the answer is written; after any other failure, nothing.
-    ensures breaks_off { IsErrOf result Failure.Output → PrintsFront
-        (IsAnswer (F.at system.now) (R.remaining input.old) task.entry.mode (texts task.entry.paths.now))
-        (W.contents output.old) (W.contents output.new) }
-    ensures silent { IsErr result → ¬ IsErrOf result Failure.Output → output.new ≡ output.old }
 {
     match task.mode {
         Mode::Help => write_all(output, USAGE.as_bytes()),
-        Mode::Version => print_version(alloc, output),
+        Mode::Version => {
+            let line = version_line(alloc)?;
+            write_all(output, line.as_slice())
+        }
         Mode::Shortlog(options) => {
-            shortlog_of(system, alloc, options, task.paths, input, output)
+            let mailmaps = read_files(system, alloc, task.paths)?;
+            let list = list_of(alloc, mailmaps.as_slice())?;
+            let buffers = list.as_slice();
+            let contacts = count_contacts(alloc, input)?;
+            print_shortlog(
+                alloc,
+                buffers,
+                &contacts,
+                options.by_count,
+                options.with_email,
+                output,
+            )
         }
     }
-}
-
-fn print_version<W: Write>(alloc: Global, output: &mut W) -> Result<(), Failure>
-    ensures ok { OnOk result (Appends (W.contents output.old) (W.contents output.new)
-        (codes "mailmap_shortlog " ++ VERSION.now ++ 10 ∷ [])) }
-    ensures err { IsErrOf result Failure.Output → (count : ℕ) × Appends (W.contents output.old)
-        (W.contents output.new) (take count (codes "mailmap_shortlog " ++ VERSION.now ++ 10 ∷ [])) }
-    ensures silent { IsErr result → ¬ IsErrOf result Failure.Output → output.new ≡ output.old }
-    ensures only { IfErr result (λ e. (e ≡ Failure.Memory) ⊎ (e ≡ Failure.Output)) }
-{
-    let line = version_line(alloc)?;
-    write_all(output, line.as_slice())
 }
 
 fn version_line(alloc: Global) -> Result<Vec<u8>, AllocError>
@@ -237,36 +219,4 @@ fn version_line(alloc: Global) -> Result<Vec<u8>, AllocError>
     line.extend_from_slice(VERSION.as_bytes())?;
     line.push(b'\n')?;
     Ok(line)
-}
-
-fn shortlog_of<F: FileSystem, R: Read, W: Write>(
-    system: &F,
-    alloc: Global,
-    options: Options,
-    paths: &[Vec<u8>],
-    input: &mut R,
-    output: &mut W,
-) -> Result<(), Failure>
-    ensures prints { OnOk result (Prints (IsAnswer (F.at system.now) (R.remaining input.old) (Mode.Shortlog options)
-        (texts paths.now)) (W.contents output.old) (W.contents output.new)) }
-    ensures reads_all { OnOk result (IsAtEnd (R.remaining input.new)) }
-    ensures reads_first { IsErrOf result Failure.Output → IsAtEnd (R.remaining input.new) }
-    ensures unread_at_files { IfErr result (λ e. IsOfFile e → input.new ≡ input.old) }
-    ensures fails { IfErr result (FailsFor (F.at system.now) (Mode.Shortlog options) (texts paths.now)) }
-    ensures breaks_off { IsErrOf result Failure.Output → PrintsFront (IsAnswer (F.at system.now)
-        (R.remaining input.old) (Mode.Shortlog options) (texts paths.now))
-        (W.contents output.old) (W.contents output.new) }
-    ensures silent { IsErr result → ¬ IsErrOf result Failure.Output → output.new ≡ output.old }
-{
-    let mailmaps = read_files(system, alloc, paths)?;
-    let buffers = list_of(alloc, mailmaps.as_slice())?;
-    let lines = count_lines(alloc, input)?;
-    print_shortlog(
-        alloc,
-        buffers.as_slice(),
-        lines,
-        options.by_count,
-        options.with_email,
-        output,
-    )
 }

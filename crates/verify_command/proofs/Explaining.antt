@@ -1,76 +1,115 @@
 -- Answering lines while they are read: what was read, answered and written.
-use Rattle.std.proofs.Common.{◌≡◌, ◌⊎◌, ◌++◌, ◌∙◌, ℕ, Bool, List, [], ◌∷◌, Option, None, Some, Err, ap, append-nil, append_assoc, false, inl, inr, refl, subst, sym, take, true}
+use Rattle.std.proofs.Common.{◌≡◌, ◌≢◌, ◌++◌, ◌∙◌, ℕ, Bool, List, [], ◌∷◌, Option, None, Some, Result, Ok, Err, ⊎_elim, OnErr, ap, append_assoc, false, inl, inr, refl, subst, sym, take, true}
+use Rattle.std.specs.Prelude.{IfErr, IsOkUnless}
 use Rattle.std.specs.Io.KnownBytes.{Appends, Consumes}
 use Rattle.std.specs.List.{flat_map}
-use Rattle.std.specs.Result.{IsErrOf}
+use Rattle.std.specs.declared.io.ErrorKind.{ErrorKind}
 use Rattle.std.proofs.KnownBytes.{Appends-nil, Appends-trans, Consumes-nil}
-use Rattle.command_line.specs.Failures.{IsOfInput}
-use Rattle.command_line.specs.Leaving.{LeavesAnswers}
+use Rattle.std.proofs.lemmas.Grind.{flat_map-append}
+use Rattle.std.proofs.lemmas.List.{flat_map_more}
 use Rattle.command_line.specs.Lines.{EndsLine, HasRead, Reads, ReadsText}
-use Rattle.command_line.specs.Printing.{Prints, PrintsFront}
+use Rattle.command_line.specs.Printing.{IsUnderway, Prints, PrintsFront}
 use Rattle.command_line.specs.declared.failure.Failure.{Failure}
 use Rattle.command_line.specs.declared.failure.Failure.TheVariants.{File, Input, Memory, Output}
-use Rattle.command_line.proofs.Reading.{all_read, read_none, read_on}
-use Rattle.command_line.proofs.Printed.{Appends-both, Appends-longer, HasPrinted, underway-whole}
-use Rattle.mailmap_findings.proofs.Concatenated.{joined}
+use Rattle.command_line.proofs.Reading.{HasReadLines, all_read, ends_after, lines_of-append, read_on}
+use Rattle.command_line.proofs.Printed.{Appends-both, Appends-longer, underway-none, underway-trans, underway-whole, underway-with}
 use Rattle.mailmap_entries.specs.Folding.{Text}
 use Rattle.mailmap_findings.specs.Positions.{whole_lines}
-use Rattle.verify_command.specs.Explained.{MapsAll, MapsFront, MapsLines, MapsWholeLines, each_line}
-use Rattle.verify_command.proofs.Fronts.{each_line-append, front-lines, front-longer, front-more, front-none, front-whole, none_answered}
+use Rattle.mailmap_findings.proofs.Concatenated.{AreWhole, are_whole, joined, joined-whole_lines, whole_lines-joined}
+use Rattle.mailmap_findings.proofs.WholeLines.{lines-whole}
+use Rattle.verify_command.specs.Explained.{Grounds, LeavesLines, MapsAll, MapsFront, MapsLines, StopsIn, each_line, explained_line}
+
+-- the answers to lines after whole lines
+each_line-append : (answer : Text → Text) (whole more : Text) → EndsLine whole → each_line answer (whole ++ more) ≡ each_line answer whole ++ each_line answer more
+each_line-append answer whole more ends =
+    ap (flat_map answer) (sym (lines-whole (whole ++ more)) ∙ lines_of-append whole more ends ∙ (λ i. lines-whole whole i ++ lines-whole more i))
+    ∙ flat_map-append answer (whole_lines whole) (whole_lines more)
+
+pub none_answered : (answer : Text → Text) → [] ≡ each_line answer []
+unfolding whole_lines
+none_answered answer = refl
+
+-- ---- the first of some lines
+
+none_left : (done rest : List Text) → done ++ rest ≡ [] → rest ≡ []
+none_left [] rest e = e
+none_left (t ∷ done) rest e = cc
+
+are_ended : (done rest : List Text) → rest ≢ [] → AreWhole (done ++ rest) → AreWhole done × EndsLine (joined done)
+are_ended [] rest some are = (tt, inl refl)
+are_ended (t ∷ done) rest some are =
+    let more = are_ended done rest some are.1 in
+    ⊎_elim (λ w. ((inl w, more.0), ends_after t (joined done) (inr (w.0, w.2)) more.1)) (λ w. absurd (some (none_left done rest w.1))) are.0
+
+-- answers to the first lines, with others after them
+front-lines : (answer : Text → Text) (bytes : Text) (done rest : List Text) → rest ≢ [] → whole_lines bytes ≡ done ++ rest → MapsFront answer bytes (flat_map answer done)
+front-lines answer bytes done rest some is =
+    let ended = are_ended done rest some (subst AreWhole is (are_whole bytes)) in (
+      joined done,
+      joined rest,
+      ended.1,
+      sym (joined-whole_lines bytes) ∙ ap joined is ∙ flat_map-append (λ t. t) done rest,
+      ap (flat_map answer) (sym (whole_lines-joined done ended.0)),
+    )
+
+-- ---- lines whose answers are printed
+
+-- the answers to the lines so far are written or held
+pub record HasPrinted (answer : Text → Text) (all left : List Text) (before after : Option Text) (held : Text) : Type 0 where
+  pub done : List Text
+  pub whole : all ≡ done ++ left
+  pub underway : IsUnderway (flat_map answer done) before after held
+
+pub printed_none : {answer : Text → Text} {all left : List Text} {before : Option Text} {held : Text} → left ≡ all → held ≡ [] → HasPrinted answer all left before before held
+printed_none {before = before} is none = record { done = []; whole = sym is; underway = subst (IsUnderway [] before before) (sym none) underway-none }
+
+pub printed_more : {answer : Text → Text} {all left rest : List Text} {line piece later : Text} {before between after : Option Text} {held : Text} → HasPrinted answer all left before between held → left ≡ line ∷ rest → piece ≡ answer line → IsUnderway (held ++ piece) between after later
+    → HasPrinted answer all rest before after later
+printed_more {answer} {rest = rest} {line} {piece} {later} {before} {after = after} h step is more = record {
+  done = h.done ++ line ∷ [];
+  whole = h.whole ∙ ap (λ l. h.done ++ l) step ∙ sym (append_assoc h.done (line ∷ []) rest);
+  underway = subst (λ t. IsUnderway t before after later) (ap (λ p. flat_map answer h.done ++ p) is ∙ flat_map_more answer [] h.done line) (underway-trans (underway-with piece h.underway) more);
+}
+
+-- the answers to the others are left
+pub left_to_print : {answer : Text → Text} {all left : List Text} {before after : Option Text} {held : Text} → HasPrinted answer all left before after held → IsUnderway (flat_map answer all) before after (held ++ flat_map answer left)
+left_to_print {answer} {left = left} {before} {after} {held} h =
+    subst (λ t. IsUnderway t before after (held ++ flat_map answer left)) (sym (ap (flat_map answer) h.whole ∙ flat_map-append answer h.done left)) (underway-with (flat_map answer left) h.underway)
 
 -- the held bytes are written before the remaining pieces are printed
 pub printed_first : {answer : Text → Text} {bytes : Text} {left rest : List Text} {line : Text} {before between : Option Text} {held : Text} (after : Option Text)
-    → HasPrinted answer [] (whole_lines bytes) left before between held → left ≡ line ∷ rest → Appends between after held
-    → Prints (λ made. (rest : Text) × MapsFront answer bytes made rest) before after
-printed_first {answer} {bytes} {left} {rest} {line} {before} {between} {held} after h step written =
-    let is : whole_lines bytes ≡ h.done ++ line ∷ rest = h.whole ∙ ap (λ l. h.done ++ l) step in (
-      flat_map answer h.done,
-      (joined (line ∷ rest), front-lines answer bytes h.done (line ∷ rest) (λ e. cc) is),
-      underway-whole (flat_map answer h.done) before between after held h.underway written,
-    )
+    → HasPrinted answer (whole_lines bytes) left before between held → left ≡ line ∷ rest → Appends between after held → Prints (MapsFront answer bytes) before after
+printed_first {answer} {bytes} {rest = rest} {line} after h step written = (
+  flat_map answer h.done,
+  front-lines answer bytes h.done (line ∷ rest) (λ e. cc) (h.whole ∙ ap (λ l. h.done ++ l) step),
+  underway-whole after h.underway written,
+)
 
 -- ---- an input that is answered while it is read
 
--- answers to the first lines of some bytes
-abbrev pub SomeAnswered : (Text → Text) → Text → Text → Type 0
-SomeAnswered answer bytes made = (rest : Text) × MapsFront answer bytes made rest
-
 -- `lines` were read and their answers written
-pub record HasAnswered (answer : Text → Text) (old now : Option Text) (held : Text) (before after : Option Text) : Type 0 where
-  pub lines : Text
-  pub read : HasRead old now lines held
-  pub written : Appends before after (each_line answer lines)
+abbrev pub HasAnswered : (Text → Text) → Option Text → Option Text → Text → Option Text → Option Text → Type 0
+HasAnswered answer old now held before after = HasReadLines (λ lines. Appends before after (each_line answer lines)) old now held
 
--- before the first read
-pub begun : {answer : Text → Text} {old : Option Text} {held : Text} {before : Option Text} → held ≡ [] → HasAnswered answer old old held before before
-begun {answer = answer} {old = old} {before = before} none = record {
-  lines = [];
-  read = subst (HasRead old old []) (sym none) (read_none old);
-  written = subst (Appends before before) (none_answered answer) (Appends-nil before);
-}
-
--- after more lines
+-- the answers to lines after whole lines are written after theirs
 written_both : (answer : Text → Text) (lines text : Text) (before between after : Option Text) → EndsLine lines → Appends before between (each_line answer lines) → Appends between after (each_line answer text)
     → Appends before after (each_line answer (lines ++ text))
 written_both answer lines text before between after ends first more =
     subst (Appends before after) (sym (each_line-append answer lines text ends)) (Appends-trans before between after (each_line answer lines) (each_line answer text) first more)
 
-pub one_more : {answer : Text → Text} {old now later : Option Text} {held text rest : Text} {more : Bool} {before between after : Option Text} → more ≡ true → (h : HasAnswered answer old now held before between)
+pub one_more : (answer : Text → Text) (before between after : Option Text) {old now later : Option Text} {held text rest : Text} {more : Bool} → more ≡ true → (h : HasAnswered answer old now held before between)
     → ReadsText old later h.lines text rest more → Appends between after (each_line answer text) → HasAnswered answer old later rest before after
-one_more {answer = answer} {old = old} {later = later} {text = text} {rest = rest} {before = before} {between = between} {after = after} is h r w = record {
+one_more answer before between after {text = text} is h r w = record {
   lines = h.lines ++ text;
-  read = read_on old later h.lines text rest (subst (ReadsText old later h.lines text rest) is r);
-  written = written_both answer h.lines text before between after h.read.ends h.written w;
+  read = read_on is r;
+  holds = written_both answer h.lines text before between after h.read.ends h.holds w;
 }
 
 -- at the end of the input
-pub ended : {answer : Text → Text} {old now later : Option Text} {held text rest : Text} {more : Bool} {before between : Option Text} (after : Option Text) → more ≡ false → (h : HasAnswered answer old now held before between)
+pub ended : (answer : Text → Text) (before between after : Option Text) {old now later : Option Text} {held text rest : Text} {more : Bool} → more ≡ false → (h : HasAnswered answer old now held before between)
     → ReadsText old later h.lines text rest more → Appends between after (each_line answer text) → Prints (MapsAll answer old) before after
-ended {answer = answer} {old = old} {later = later} {text = text} {rest = rest} {before = before} {between = between} after is h r w = (
-  each_line answer (h.lines ++ text),
-  (h.lines ++ text, all_read old later h.lines text rest (subst (ReadsText old later h.lines text rest) is r), refl),
-  written_both answer h.lines text before between after h.read.ends h.written w,
-)
+ended answer before between after {text = text} is h r w =
+    (each_line answer (h.lines ++ text), (h.lines ++ text, all_read is r, refl), written_both answer h.lines text before between after h.read.ends h.holds w)
 
 -- a prefix of the answers to the first lines is a prefix of all answers
 lines_broken : (answer : Text → Text) (old now : Option Text) (lines rest : Text) (before after : Option Text) (n : ℕ) → Consumes old now (lines ++ rest) → EndsLine lines
@@ -89,72 +128,80 @@ lines_broken answer (Some x) (Some y) lines rest before after n consumed ends br
 text_broken : (answer : Text → Text) (old later : Option Text) (lines text rest : Text) (more : Bool) (before after : Option Text) (n : ℕ) → ReadsText old later lines text rest more
     → Appends before after (take n (each_line answer (lines ++ text))) → PrintsFront (MapsAll answer old) before after
 text_broken answer old later lines text rest true before after n r broken = lines_broken answer old later (lines ++ text) rest before after n r.consumed (r.ends refl) broken
-text_broken answer old later lines text rest false before after n r broken = (each_line answer (lines ++ text), (lines ++ text, all_read old later lines text rest r, refl), (n, broken))
+text_broken answer old later lines text rest false before after n r broken = (each_line answer (lines ++ text), (lines ++ text, all_read refl r, refl), (n, broken))
 
 -- memory runs out within the next text
-text_lost : (answer : Text → Text) (old later : Option Text) (lines text rest made left : Text) → EndsLine lines → Consumes old later ((lines ++ text) ++ rest) → MapsFront answer text made left
+text_lost : (answer : Text → Text) (old later : Option Text) (lines text rest made : Text) → EndsLine lines → Consumes old later ((lines ++ text) ++ rest) → MapsFront answer text made
     → MapsLines answer old later (each_line answer lines ++ made)
-text_lost answer old later lines text rest made left ends consumed a =
-    let first = subst (λ l. MapsFront answer l (each_line answer lines) []) (append-nil lines) (front-whole answer lines [] ends) in (
-      (lines ++ text) ++ rest,
-      left ++ rest,
-      consumed,
-      front-longer answer (lines ++ text) (each_line answer lines ++ made) left rest (front-more answer lines (each_line answer lines) [] text made left first a),
-    )
+text_lost answer old later lines text rest made ends consumed (whole, left, whole_ends, text_is, made_is) = (
+  (lines ++ text) ++ rest,
+  consumed,
+  (
+    lines ++ whole,
+    left ++ rest,
+    ends_after lines whole ends whole_ends,
+    ap (λ t. (lines ++ t) ++ rest) text_is ∙ ap (λ t. t ++ rest) (sym (append_assoc lines whole left)) ∙ append_assoc (lines ++ whole) left rest,
+    ap (λ t. each_line answer lines ++ t) made_is ∙ sym (each_line-append answer lines whole ends),
+  ),
+)
 
-not_of_input : (e : Failure) → (e ≡ Memory) ⊎ (e ≡ Output) → IsOfInput e → ⊥
-not_of_input (File number cause) only of_input = of_input
-not_of_input (Input cause) (inl is) of_input = cc
-not_of_input (Input cause) (inr is) of_input = cc
-not_of_input Memory only of_input = of_input
-not_of_input Output only of_input = of_input
+-- ---- how it can end
 
--- either failure while the next text is answered
-pub failed_printing : {T : Type 0} {answer : Text → Text} {old now later : Option Text} {held text rest : Text} {more : Bool} {before between after : Option Text} {e : Failure} → (h : HasAnswered answer old now held before between) → ReadsText old later h.lines text rest more → (e ≡ Memory) ⊎ (e ≡ Output)
-    → (IsErrOf {T = T} {E = Failure} (Err e) Memory → Prints (SomeAnswered answer text) between after) → (IsErrOf {T = T} {E = Failure} (Err e) Output → (count : ℕ) × Appends between after (take count (each_line answer text)))
-    → LeavesAnswers {T = T} (MapsAll answer old) (MapsWholeLines answer old later) (Prints (MapsLines answer old later) before after) later before after (Err e)
-failed_printing {answer = answer} {old = old} {later = later} {text = text} {rest = rest} {more = more} {before = before} {between = between} {after = after} {e = e} h r only lost broken = record {
-  prints = tt;
-  reads_all = tt;
-  breaks_off = λ is.
-      let b = broken is in
-      let both = Appends-both before between after (each_line answer h.lines) (each_line answer text) b.0 h.written b.1 in
-      text_broken answer old later h.lines text rest more before after both.0 r
-      (subst (λ t. Appends before after (take both.0 t)) (sym (each_line-append answer h.lines text h.read.ends)) both.1);
-  input_fails = λ of_input. absurd (not_of_input e only of_input);
-  memory_fails = λ is.
-      let p = lost is in (
-        each_line answer h.lines ++ p.0,
-        text_lost answer old later h.lines text rest p.0 p.1.0 h.read.ends r.consumed p.1.1,
-        Appends-trans before between after (each_line answer h.lines) p.0 h.written p.2,
-      );
-}
-
--- the input fails
-pub whole_lines_written : (answer : Text → Text) (old now : Option Text) (lines held : Text) (before after : Option Text) → HasRead old now lines held → Appends before after (each_line answer lines)
-    → Prints (MapsWholeLines answer old now) before after
-whole_lines_written answer old now lines held before after h w = (each_line answer lines, (lines ++ held, held, h.consumed, front-whole answer lines held h.ends, h.no_feed), w)
-
--- any failure while the next text is read
-pub failed_reading : {T : Type 0} {answer : Text → Text} {old now later : Option Text} {held : Text} (text rest : Text) {before after : Option Text} (e : Failure) → (h : HasAnswered answer old now held before after) → Reads old later h.lines text rest (Err e)
-    → LeavesAnswers {T = T} (MapsAll answer old) (MapsWholeLines answer old later) (Prints (MapsLines answer old later) before after) later before after (Err e)
-failed_reading text rest (File number cause) h r = absurd r
-failed_reading {answer = answer} {old = old} {later = later} text rest {before = before} {after = after} (Input cause) h r = record {
+pub input_failed : {T : Type 0} (answer : Text → Text) {old later : Option Text} (lines held : Text) {before after : Option Text} (cause : ErrorKind) → HasRead old later lines held → Appends before after (each_line answer lines)
+    → LeavesLines {T = T} answer old later before after (Err (Input cause))
+input_failed answer lines held cause read written = record {
   prints = tt;
   reads_all = tt;
   breaks_off = λ is. cc;
-  input_fails = λ _. whole_lines_written answer old later h.lines r.0 before after r.1 h.written;
+  input_fails = λ _. (each_line answer lines, (lines, held, read, refl), written);
   memory_fails = λ is. cc;
 }
-failed_reading {answer = answer} text rest Memory h r = record {
+
+pub memory_failed : {T : Type 0} (answer : Text → Text) {old later before after : Option Text} → Prints (MapsLines answer old later) before after → LeavesLines {T = T} answer old later before after (Err Memory)
+memory_failed answer lost = record { prints = tt; reads_all = tt; breaks_off = λ is. cc; input_fails = λ of_input. absurd of_input; memory_fails = λ _. lost }
+
+-- either failure while the next text is answered
+pub failed_printing : {T : Type 0} (answer : Text → Text) (before between after : Option Text) {old now later : Option Text} {held text rest : Text} {more : Bool} (e : Failure) → (h : HasAnswered answer old now held before between) → ReadsText old later h.lines text rest more → StopsIn answer text between after e
+    → LeavesLines {T = T} answer old later before after (Err e)
+failed_printing answer before between after {old = old} {later = later} {text = text} {rest = rest} {more = more} Output h r broken = record {
   prints = tt;
   reads_all = tt;
-  breaks_off = λ is. cc;
+  breaks_off = λ _.
+      let both = Appends-both before between after (each_line answer h.lines) (each_line answer text) broken.0 h.holds broken.1 in
+      text_broken answer old later h.lines text rest more before after both.0 r
+      (subst (λ t. Appends before after (take both.0 t)) (sym (each_line-append answer h.lines text h.read.ends)) both.1);
   input_fails = λ of_input. absurd of_input;
-  memory_fails = λ _. (each_line answer h.lines, (h.lines ++ r.0, r.0, r.1, front-whole answer h.lines r.0 h.read.ends), h.written);
+  memory_fails = λ is. cc;
 }
-failed_reading text rest Output h r = absurd r
+failed_printing answer before between after {old = old} {later = later} {text = text} {rest = rest} Memory h r (made, first, written) = memory_failed answer (
+  each_line answer h.lines ++ made,
+  text_lost answer old later h.lines text rest made h.read.ends r.consumed first,
+  Appends-trans before between after (each_line answer h.lines) made h.holds written,
+)
+failed_printing answer before between after _ h r printed = absurd printed
+
+-- any failure while the next text is read
+pub failed_reading : {T : Type 0} (answer : Text → Text) {old now later : Option Text} {held : Text} (text rest : Text) {before after : Option Text} (e : Failure) → (h : HasAnswered answer old now held before after) → Reads old later h.lines text rest (Err e)
+    → LeavesLines {T = T} answer old later before after (Err e)
+failed_reading answer text rest (Input cause) h r = input_failed answer h.lines r.0 cause r.1 h.holds
+failed_reading answer text rest Memory h r = memory_failed answer (each_line answer h.lines, (h.lines ++ r.0, r.1, (h.lines, r.0, h.read.ends, refl, refl)), h.holds)
+failed_reading answer text rest _ h r = absurd r
 
 -- nothing was read or written
-pub nothing : (answer : Text → Text) (old before : Option Text) → Prints (MapsLines answer old old) before before
-nothing answer old before = ([], ([], [], Consumes-nil old, front-none answer []), Appends-nil before)
+pub nothing : {T : Type 0} (answer : Text → Text) (old before : Option Text) → LeavesLines {T = T} answer old old before before (Err Memory)
+nothing answer old before = memory_failed answer ([], ([], Consumes-nil old, ([], [], inl refl, refl, none_answered answer)), Appends-nil before)
+
+-- ---- one text
+
+-- a write fails
+pub cut : (answer : Text → Text) (text : Text) (before after : Option Text) (e : Failure) → e ≡ Output → (n : ℕ) × Appends before after (take n (each_line answer text)) → StopsIn answer text before after e
+cut answer text before after e is broken = subst (StopsIn answer text before after) (sym is) broken
+
+pub cut_if_err : {T : Type 0} (answer : Text → Text) (text : Text) (before after : Option Text) (r : Result T Failure) → IsOkUnless r Output → OnErr r ((n : ℕ) × Appends before after (take n (each_line answer text))) → IfErr r (StopsIn answer text before after)
+cut_if_err answer text before after (Ok x) only err = tt
+cut_if_err answer text before after (Err e) only err = cut answer text before after e only err
+
+-- the same for an equal text and equal grounds
+pub stops_alike : {g h : Grounds} {text same : Text} (before after : Option Text) (e : Failure) → g ≡ h → text ≡ same → StopsIn (explained_line g) text before after e → StopsIn (explained_line h) same before after e
+stops_alike {h = h} {text = text} before after e grounds texts stops =
+    subst (λ (t : Text). StopsIn (explained_line h) t before after e) texts (subst (λ (x : Grounds). StopsIn (explained_line x) text before after e) grounds stops)

@@ -1,12 +1,3 @@
-mod Fronts
 mod Explaining
-mod Grounded
-mod TakingLines
 mod Leaving
-mod Named
-mod Reporting
-mod Inputs
-mod Suggesting
-mod Naming
-mod Words
 mod Objects

@@ -1,14 +1,12 @@
 -- JSON of findings.
-use Rattle.std.proofs.Common.{◌≡◌, ◌∙◌, Bool, Option, None, Some, ap, false, if◌then◌else◌, refl, sym, true}
+use Rattle.std.proofs.Common.{◌≡◌, Option, None, Some, ap, false, refl, sym, true}
 use Rattle.std.specs.Str.{IsUtf8, is_utf8}
 use Rattle.std.proofs.lemmas.Bool.{false_from_ne_true}
 use Rattle.std.proofs.lemmas.Str.{IsUtf8-from_is_utf8, is_utf8-from_IsUtf8}
 use Rattle.serde_json.specs.Data.{member, no_members, object, string}
 use Rattle.serde_json.specs.Written.{has_float}
 use Rattle.mailmap_entries.specs.Folding.{Text}
-use Rattle.verify_command.specs.Json.{FileLine, object_data, text_data, text_in, text_key}
-use Rattle.verify_command.specs.Settings.{Choices, formatted, is_json}
-use Rattle.verify_command.specs.declared.kinds.Kind.{Kind}
+use Rattle.verify_command.specs.Json.{FileLine, Notice, members, object_data, text_data, text_in, text_key, with_other}
 
 pub text_if : (text : Text) → IsUtf8 text → object (member (text_key true) (string (text_in true text)) no_members) ≡ text_data text
 text_if text is = ap (λ b. object (member (text_key b) (string (text_in b text)) no_members)) (sym (is_utf8-from_IsUtf8 text is))
@@ -17,13 +15,9 @@ pub bytes_if : (text : Text) → ¬ (IsUtf8 text) → object (member (text_key f
 bytes_if text is_not =
     ap (λ b. object (member (text_key b) (string (text_in b text)) no_members)) (sym (false_from_ne_true (is_utf8 text) (λ is. is_not (IsUtf8-from_is_utf8 text is))))
 
-pub no_float : (kind : Kind) (l : FileLine) (message : Text) (other : Option FileLine) → has_float (object_data kind l message other) ≡ false
-no_float kind l message None = refl
-no_float kind l message (Some other) = refl
+no_float_in : (other : Option FileLine) (n : Notice) → has_float (object (with_other other (members n))) ≡ false
+no_float_in None n = refl
+no_float_in (Some other) n = refl
 
--- what the format asks for
-pub as_object : (choices : Choices) (line object_is : Text) (b : Bool) → b ≡ is_json choices → b ≡ true → object_is ≡ formatted choices line object_is
-as_object choices line object_is b is holds = ap (λ t. if t then object_is else line) (sym holds ∙ is)
-
-pub as_line : (choices : Choices) (line object_is : Text) (b : Bool) → b ≡ is_json choices → b ≡ false → line ≡ formatted choices line object_is
-as_line choices line object_is b is fails = ap (λ t. if t then object_is else line) (sym fails ∙ is)
+pub no_float : (n : Notice) → has_float (object_data n) ≡ false
+no_float n = no_float_in n.other n

@@ -1,17 +1,15 @@
 -- What the arguments of `mailmap_verify` ask for.
-use Rattle.std.specs.Prelude.{◌==◌, ◌&&◌, ◌||◌, ◌≡◌, ◌+◌, ⊤, ℕ, Bool, true, false, if◌then◌else◌, nat_eq, nat_lt, is_some, length, List, [], ◌∷◌, ◌++◌, Option, Some, None, Result, Ok, Err, codes, drop, not, slice_index, take}
-use Rattle.std.specs.List.{find, list_any, position}
+use Rattle.std.specs.Prelude.{◌==◌, ◌&&◌, ◌≡◌, ◌+◌, ⊤, ℕ, Bool, true, false, if◌then◌else◌, nat_lt, is_some, length, List, [], ◌∷◌, ◌++◌, Option, Some, None, Result, Ok, Err, codes, drop, not, slice_index, take, unwrap_or}
+use Rattle.std.specs.List.{position}
+use Rattle.std.specs.Option.{option_map}
 use Rattle.bstr.specs.Text.{split_at}
 use Rattle.bstr.specs.Find.{matches}
-use lib.Pointwise.{pointwise}
 use Rattle.mailmap_entries.specs.Folding.{Text}
 use Rattle.command_line.specs.Files.{texts}
-use Rattle.verify_command.specs.Kinds.{kind_name}
-use Rattle.verify_command.specs.Settings.{Choices, choices_of, no_choices}
+use Rattle.verify_command.specs.Kinds.{kind_named, same_text}
+use Rattle.verify_command.specs.Settings.{Choices, choices_of, input_name, no_choices}
 use Rattle.verify_command.specs.declared.asked.Format.{Format}
 use Rattle.verify_command.specs.declared.asked.Format.TheVariants.{Gcc, Json}
-use Rattle.verify_command.specs.declared.asked.Misuse.{Misuse}
-use Rattle.verify_command.specs.declared.asked.Misuse.TheVariants as misuse
 use Rattle.verify_command.specs.declared.asked.Mode.{Mode}
 use Rattle.verify_command.specs.declared.asked.Mode.TheVariants.{Help, Version, Verify, Prune, Explain, Contacts, Suggest}
 use Rattle.verify_command.specs.declared.asked.ParseError.{ParseError}
@@ -20,7 +18,6 @@ use Rattle.verify_command.specs.declared.asked.Request.{Request}
 use Rattle.verify_command.specs.declared.asked.Setting.{Setting}
 use Rattle.verify_command.specs.declared.asked.Setting.TheVariants as setting
 use Rattle.verify_command.specs.declared.kinds.Kind.{Kind}
-use Rattle.verify_command.specs.declared.kinds.Kind.TheVariants.{NoEmail, UnclosedEmail, EmptyEmail, NothingToMap, UnclosedSecondEmail, IgnoredText, GitReads, NoEffect, ItselfMapped, Unneeded, NoContact, SameEmail, SameName, GitAnswers}
 use Rattle.verify_command.specs.declared.kinds.Level.{Level}
 use Rattle.verify_command.specs.declared.kinds.Level.TheVariants.{Error, Note, Warning}
 use Rattle.verify_command.specs.declared.request.Word.{Word}
@@ -51,17 +48,14 @@ wanted_of r = record {
   paths = texts r.paths.items;
 }
 
-abbrev pub wrong_of : Misuse → Wrong
-wrong_of (misuse.UnknownOption option) = unknown_option option.items
-wrong_of (misuse.SecondMode option) = second_mode option.items
-wrong_of (misuse.NoValue setting option) = no_value setting option.items
-wrong_of (misuse.UnknownValue setting value) = unknown_value setting value.items
-wrong_of (misuse.Unused mode setting) = unused mode setting
-
 -- Unless memory runs out, this is the request or the error.
 abbrev pub IsAsked : Result Request ParseError → Result Wanted Wrong → Type 0
 IsAsked (Ok request) asked = Ok (wanted_of request) ≡ asked
-IsAsked (Err (error.Misuse m)) asked = Err (wrong_of m) ≡ asked
+IsAsked (Err (error.UnknownOption option)) asked = Err (unknown_option option.items) ≡ asked
+IsAsked (Err (error.SecondMode option)) asked = Err (second_mode option.items) ≡ asked
+IsAsked (Err (error.NoValue setting option)) asked = Err (no_value setting option.items) ≡ asked
+IsAsked (Err (error.UnknownValue setting value)) asked = Err (unknown_value setting value.items) ≡ asked
+IsAsked (Err (error.Unused mode setting)) asked = Err (unused mode setting) ≡ asked
 IsAsked (Err error.Memory) asked = ⊤
 
 -- what no argument asks for
@@ -70,103 +64,82 @@ plain mode = record { mode = mode; contacts = []; choices = no_choices; paths = 
 
 -- ---- single arguments
 
-abbrev pub same_text : Text → Text → Bool
-same_text a b = pointwise nat_eq a b
-
 -- an argument that starts with `-` and is longer than that
 abbrev pub is_dashed : Text → Bool
 is_dashed argument = slice_index argument 0 == 45 && nat_lt 1 (length argument)
 
 -- an option with a value, by its long name
 abbrev pub setting_named : Text → Option Setting
-setting_named name =
-    if same_text name (codes "--contacts") then Some setting.Contacts
+setting_named name = if same_text name (codes "--contacts") then Some setting.Contacts
     else if same_text name (codes "--suggest") then Some setting.Suggest
     else if same_text name (codes "--severity") then Some setting.Severity
     else if same_text name (codes "--exclude") then Some setting.Exclude
     else if same_text name (codes "--format") then Some setting.Format
-    else if same_text name (codes "--stdin-name") then Some setting.StdinName
-    else None
+    else if same_text name (codes "--stdin-name") then Some setting.StdinName else None
 
 -- and by its letter
 abbrev pub setting_lettered : Text → Option Setting
-setting_lettered name =
-    if same_text name (codes "-S") then Some setting.Severity
+setting_lettered name = if same_text name (codes "-S") then Some setting.Severity
     else if same_text name (codes "-e") then Some setting.Exclude
-    else if same_text name (codes "-f") then Some setting.Format
-    else None
+    else if same_text name (codes "-f") then Some setting.Format else None
 
-abbrev pub is_equals : ℕ → Bool
-is_equals byte = byte == 61
+-- the index of the first `=`
+abbrev pub equals_in : Text → Option ℕ
+equals_in argument = position (λ byte. byte == 61) argument
 
--- the parts before and after the first `=`; without one, all and nothing
+-- the part before it; without one, all
 abbrev pub name_at : Text → Option ℕ → Text
 name_at argument (Some at) = take at argument
 name_at argument None = argument
 
-abbrev pub value_at : Text → Option ℕ → Text
-value_at argument (Some at) = drop (at + 1) argument
-value_at argument None = []
-
 abbrev pub name_in : Text → Text
-name_in argument = name_at argument (position is_equals argument)
+name_in argument = name_at argument (equals_in argument)
 
-abbrev pub value_in : Text → Text
-value_in argument = value_at argument (position is_equals argument)
+-- the part after it
+abbrev pub value_in : Text → Option Text
+value_in argument = option_map (λ at. drop (at + 1) argument) (equals_in argument)
 
 -- an option with a value that may be in the same argument, as in `--format=json`
 abbrev pub setting_word : Text → Word
 setting_word argument = elim (setting_lettered argument) [
   | Some setting ↦ word.Next setting
   | None ↦ elim (setting_named (name_in argument)) [
-    | Some setting ↦ if list_any is_equals argument then word.Joined setting else word.Next setting
+    | Some setting ↦ if is_some (value_in argument) then word.Joined setting else word.Next setting
     | None ↦ if is_dashed argument then word.Unknown else word.Path
   ]
 ]
 
 -- the kind of an argument where an option can stand
 abbrev pub word_of : Text → Word
-word_of argument =
-    if same_text argument (codes "--") then word.End
-    else if same_text argument (codes "-h") || same_text argument (codes "--help") then word.Help
-    else if same_text argument (codes "--version") then word.Version
+word_of argument = if same_text argument (codes "--") then word.End
+    else if same_text argument (codes "-h") then word.Alone Help
+    else if same_text argument (codes "--help") then word.Alone Help
+    else if same_text argument (codes "--version") then word.Alone Version
     else if same_text argument (codes "--prune") then word.Mode Prune
-    else if same_text argument (codes "--explain") then word.Mode Explain
-    else setting_word argument
+    else if same_text argument (codes "--explain") then word.Mode Explain else setting_word argument
 
 -- ---- what an option adds to a request
 
 -- whether the mode prints findings
 abbrev pub reports : Mode → Bool
-reports Help = false
-reports Version = false
 reports Verify = true
-reports Prune = false
-reports Explain = false
 reports Contacts = true
-reports Suggest = false
+reports _ = false
 
 -- whether messages of the mode can name a line of standard input
 abbrev pub names_input : Mode → Bool
-names_input Help = false
-names_input Version = false
-names_input Verify = true
 names_input Prune = true
-names_input Explain = false
-names_input Contacts = true
-names_input Suggest = false
+names_input mode = reports mode
 
 abbrev pub has_none : {X : Type 0} → List X → Bool
 has_none xs = length xs == 0
 
 -- the first option that the mode doesn't use
 abbrev pub unused_setting : Wanted → Option Setting
-unused_setting w =
-    if is_some w.choices.severity && not (reports w.mode) then Some setting.Severity
+unused_setting w = if is_some w.choices.severity && not (reports w.mode) then Some setting.Severity
     else if not (has_none w.choices.excluded) && not (reports w.mode) then Some setting.Exclude
     else if is_some w.choices.format && not (reports w.mode) then Some setting.Format
-    else if is_some w.choices.stdin_name && not (names_input w.mode) then Some setting.StdinName
-    else None
+    else if is_some w.choices.stdin_name && not (names_input w.mode) then Some setting.StdinName else None
 
 abbrev pub checked : Wanted → Result Wanted Wrong
 checked w = elim (unused_setting w) [
@@ -176,13 +149,8 @@ checked w = elim (unused_setting w) [
 
 -- whether there is no mode yet: no option asks for the mode to verify
 abbrev pub has_no_mode : Mode → Bool
-has_no_mode Help = false
-has_no_mode Version = false
 has_no_mode Verify = true
-has_no_mode Prune = false
-has_no_mode Explain = false
-has_no_mode Contacts = false
-has_no_mode Suggest = false
+has_no_mode _ = false
 
 -- with this mode and this file of contacts, unless there is a mode
 abbrev pub with_mode : Wanted → Mode → Text → Text → Result Wanted Wrong
@@ -190,36 +158,13 @@ with_mode w mode contacts option =
     if has_no_mode w.mode then checked (record w { mode = mode; contacts = contacts }) else Err (second_mode option)
 
 abbrev pub level_named : Text → Option Level
-level_named name =
-    if same_text name (codes "error") then Some Error
-    else if same_text name (codes "warning") then Some Warning
-    else if same_text name (codes "note") then Some Note
+level_named name = if same_text name (codes "error") then Some Error
+    else if same_text name (codes "warning") then Some Warning else if same_text name (codes "note") then Some Note
     else None
-
-abbrev pub with_severity : Wanted → Text → Result Wanted Wrong
-with_severity w value = elim (level_named value) [
-  | Some level ↦ checked (record w { choices = record w.choices { severity = Some level } })
-  | None ↦ Err (unknown_value setting.Severity value)
-]
 
 abbrev pub format_named : Text → Option Format
-format_named name =
-    if same_text name (codes "gcc") then Some Gcc
-    else if same_text name (codes "json") then Some Json
+format_named name = if same_text name (codes "gcc") then Some Gcc else if same_text name (codes "json") then Some Json
     else None
-
-abbrev pub with_format : Wanted → Text → Result Wanted Wrong
-with_format w value = elim (format_named value) [
-  | Some format ↦ checked (record w { choices = record w.choices { format = Some format } })
-  | None ↦ Err (unknown_value setting.Format value)
-]
-
-abbrev pub kinds : List Kind
-kinds = NoEmail ∷ UnclosedEmail ∷ EmptyEmail ∷ NothingToMap ∷ UnclosedSecondEmail ∷ IgnoredText ∷ GitReads ∷ NoEffect
-    ∷ ItselfMapped ∷ Unneeded ∷ NoContact ∷ SameEmail ∷ SameName ∷ GitAnswers ∷ []
-
-abbrev pub kind_named : Text → Option Kind
-kind_named name = find (λ kind. same_text (kind_name kind) name) kinds
 
 -- the names between commas
 abbrev pub names_in : Text → List Text
@@ -242,22 +187,28 @@ with_excluded w value = elim (kinds_after w.choices.excluded (names_in value)) [
 abbrev pub with_setting : Wanted → Setting → Text → Text → Result Wanted Wrong
 with_setting w setting.Contacts option value = with_mode w Contacts value option
 with_setting w setting.Suggest option value = with_mode w Suggest value option
-with_setting w setting.Severity option value = with_severity w value
+with_setting w setting.Severity option value = elim (level_named value) [
+  | Some level ↦ checked (record w { choices = record w.choices { severity = Some level } })
+  | None ↦ Err (unknown_value setting.Severity value)
+]
 with_setting w setting.Exclude option value = with_excluded w value
-with_setting w setting.Format option value = with_format w value
+with_setting w setting.Format option value = elim (format_named value) [
+  | Some format ↦ checked (record w { choices = record w.choices { format = Some format } })
+  | None ↦ Err (unknown_value setting.Format value)
+]
 with_setting w setting.StdinName option value =
     checked (record w { choices = record w.choices { stdin_name = Some value } })
 
+-- the setting is also a mode
+abbrev pub names_mode : Setting → Bool
+names_mode setting.Contacts = true
+names_mode setting.Suggest = true
+names_mode _ = false
+
 -- an option without its value is an error, which may be that of a second mode
 abbrev pub without_value : Wanted → Setting → Text → Wrong
-without_value w setting.Contacts option =
-    if has_no_mode w.mode then no_value setting.Contacts option else second_mode option
-without_value w setting.Suggest option =
-    if has_no_mode w.mode then no_value setting.Suggest option else second_mode option
-without_value w setting.Severity option = no_value setting.Severity option
-without_value w setting.Exclude option = no_value setting.Exclude option
-without_value w setting.Format option = no_value setting.Format option
-without_value w setting.StdinName option = no_value setting.StdinName option
+without_value w setting option =
+    if names_mode setting && not (has_no_mode w.mode) then second_mode option else no_value setting option
 
 -- ---- all arguments
 
@@ -267,35 +218,39 @@ is_dash path = same_text path (codes "-")
 
 -- standard input has contacts, and so can't be the mailmap
 abbrev pub reads_contacts : Mode → Text → Bool
-reads_contacts Help contacts = false
-reads_contacts Version contacts = false
-reads_contacts Verify contacts = false
-reads_contacts Prune contacts = false
 reads_contacts Explain contacts = true
 reads_contacts Contacts contacts = is_dash contacts
 reads_contacts Suggest contacts = is_dash contacts
+reads_contacts _ contacts = false
 
--- standard input can be the mailmap; lines are only suggested for files
+-- standard input can be the mailmap: it hasn't contacts, and lines are only suggested for files
 abbrev pub can_be_mailmap : Mode → Text → Bool
-can_be_mailmap Help contacts = true
-can_be_mailmap Version contacts = true
 can_be_mailmap Verify contacts = true
 can_be_mailmap Prune contacts = true
-can_be_mailmap Explain contacts = false
 can_be_mailmap Contacts contacts = not (is_dash contacts)
-can_be_mailmap Suggest contacts = false
+can_be_mailmap _ contacts = false
+
+-- it is the mailmap if there is no path
+abbrev pub reads_mailmap : Wanted → Bool
+reads_mailmap w = can_be_mailmap w.mode w.contacts && has_none w.paths
+
+-- the name of the file of contacts in messages
+abbrev pub contacts_name : Wanted → Text
+contacts_name w = if is_dash w.contacts then input_name w.choices else w.contacts
+
+-- the mode has a file of contacts
+abbrev pub takes_contacts : Mode → Bool
+takes_contacts Contacts = true
+takes_contacts Suggest = true
+takes_contacts _ = false
 
 abbrev pub is_only_dash : List Text → Bool
-is_only_dash [] = false
 is_only_dash (path ∷ []) = is_dash path
-is_only_dash (path ∷ next ∷ paths) = false
+is_only_dash _ = false
 
--- the only path is standard input, which counts as no path
-abbrev pub is_standard_input : Wanted → Bool
-is_standard_input w = if can_be_mailmap w.mode w.contacts then is_only_dash w.paths else false
-
+-- a single `-` is standard input if that can be the mailmap, and counts as no path
 abbrev pub finished : Wanted → Wanted
-finished w = if is_standard_input w then record w { paths = [] } else w
+finished w = if can_be_mailmap w.mode w.contacts && is_only_dash w.paths then record w { paths = [] } else w
 
 abbrev pub with_paths : Wanted → List Text → Wanted
 with_paths w paths = record w { paths = w.paths ++ paths }
@@ -309,12 +264,11 @@ followed (Err wrong) next = Err wrong
 abbrev pub on_word : Word → Text → List Text → Wanted → (Wanted → Option (Setting × Text) → Result Wanted Wrong)
     → Result Wanted Wrong
 on_word word.End argument rest w more = Ok (finished (with_paths w rest))
-on_word word.Help argument rest w more = Ok (plain Help)
-on_word word.Version argument rest w more = Ok (plain Version)
+on_word (word.Alone mode) argument rest w more = Ok (plain mode)
 on_word (word.Mode mode) argument rest w more = followed (with_mode w mode [] argument) (λ next. more next None)
 on_word (word.Next setting) argument rest w more = more w (Some (setting, argument))
 on_word (word.Joined setting) argument rest w more =
-    followed (with_setting w setting argument (value_in argument)) (λ next. more next None)
+    followed (with_setting w setting argument (unwrap_or (value_in argument) [])) (λ next. more next None)
 on_word word.Unknown argument rest w more = Err (unknown_option argument)
 on_word word.Path argument rest w more = more (with_paths w (argument ∷ [])) None
 

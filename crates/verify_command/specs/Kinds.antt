@@ -1,14 +1,18 @@
 -- The kinds of findings, with their names and levels.
-use Rattle.std.specs.Prelude.{codes}
+use Rattle.std.specs.Prelude.{Bool, List, [], ◌∷◌, Option, codes, nat_eq}
+use Rattle.std.specs.List.{find}
+use lib.Pointwise.{pointwise}
 use Rattle.mailmap_contacts.specs.Comparisons.{ContactFinding, git_answers, no_contact, same_email, same_name}
 use Rattle.mailmap_entries.specs.Folding.{Text}
 use Rattle.mailmap_findings.specs.Findings.{FindingKind, fault, ignored_text, git_reads, no_effect, itself_mapped}
-use Rattle.mailmap_findings.specs.Remarks.{Remark, found, unneeded}
 use Rattle.mailmap_grammar.specs.Lines.{FaultKind, no_email, missing_closing_bracket, empty_email, nothing_to_map, unclosed_second}
 use Rattle.verify_command.specs.declared.kinds.Kind.{Kind}
 use Rattle.verify_command.specs.declared.kinds.Kind.TheVariants as kind
 use Rattle.verify_command.specs.declared.kinds.Level.{Level}
 use Rattle.verify_command.specs.declared.kinds.Level.TheVariants.{Note, Warning, Error}
+
+abbrev pub same_text : Text → Text → Bool
+same_text a b = pointwise nat_eq a b
 
 -- ---- the kind of a finding
 
@@ -25,10 +29,6 @@ finding_kind (ignored_text text) = kind.IgnoredText
 finding_kind (git_reads reading) = kind.GitReads
 finding_kind (no_effect beside is_same) = kind.NoEffect
 finding_kind (itself_mapped c to line second) = kind.ItselfMapped
-
-abbrev pub remark_kind : Remark → Kind
-remark_kind (found f) = finding_kind f.kind
-remark_kind (unneeded position) = kind.Unneeded
 
 abbrev pub contact_kind : ContactFinding → Kind
 contact_kind (no_contact line) = kind.NoContact
@@ -54,6 +54,18 @@ kind_name kind.SameEmail = codes "same-email"
 kind_name kind.SameName = codes "same-name"
 kind_name kind.GitAnswers = codes "git-answers"
 
+abbrev pub same_kind : Kind → Kind → Bool
+same_kind a b = same_text (kind_name a) (kind_name b)
+
+abbrev pub kinds : List Kind
+kinds = kind.NoEmail ∷ kind.UnclosedEmail ∷ kind.EmptyEmail ∷ kind.NothingToMap ∷ kind.UnclosedSecondEmail
+    ∷ kind.IgnoredText ∷ kind.GitReads ∷ kind.NoEffect ∷ kind.ItselfMapped ∷ kind.Unneeded ∷ kind.NoContact
+    ∷ kind.SameEmail ∷ kind.SameName ∷ kind.GitAnswers ∷ []
+
+-- the kind with this name
+abbrev pub kind_named : Text → Option Kind
+kind_named name = find (λ k. same_text (kind_name k) name) kinds
+
 abbrev pub level_name : Level → Text
 level_name Note = codes "note"
 level_name Warning = codes "warning"
@@ -68,12 +80,6 @@ kind_level kind.UnclosedEmail = Error
 kind_level kind.EmptyEmail = Error
 kind_level kind.NothingToMap = Error
 kind_level kind.UnclosedSecondEmail = Error
-kind_level kind.IgnoredText = Warning
-kind_level kind.GitReads = Warning
-kind_level kind.NoEffect = Warning
-kind_level kind.ItselfMapped = Warning
-kind_level kind.Unneeded = Warning
 kind_level kind.NoContact = Error
-kind_level kind.SameEmail = Warning
 kind_level kind.SameName = Note
-kind_level kind.GitAnswers = Warning
+kind_level _ = Warning

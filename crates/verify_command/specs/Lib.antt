@@ -1,10 +1,7 @@
 pub mod Arguments
-pub mod Contacts
 pub mod Explained
 pub mod Json
 pub mod Kinds
 pub mod Report
 pub mod Settings
-pub mod Shortened
-pub mod Taking
 pub mod Task

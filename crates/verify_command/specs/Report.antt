@@ -1,36 +1,77 @@
--- The report of findings.
-use Rattle.std.specs.Prelude.{◌==◌, ◌||◌, ◌&&◌, ℕ, Bool, true, false, if◌then◌else◌, List, [], ◌∷◌, ◌++◌, Option, Some, None, codes, decimal, not, option_to_list, slice_index_or, unwrap_or}
+-- The report of mailmaps and of contacts.
+use Rattle.std.specs.Prelude.{ℕ, ◌-◌, nat_lt, Bool, ◌&&◌, if◌then◌else◌, is_some, length, take, drop, ◌++◌, codes, ◌≡◌, ◌==◌, ◌||◌, true, false, List, [], ◌∷◌, Option, Some, None, decimal, map, option_to_list, slice_index_or, unwrap_or}
+use Rattle.bstr.specs.Utf8.{decoded}
+use Rattle.mailmap_entries.specs.Folding.{Text}
 use Rattle.std.specs.List.{flat_map, list_any}
 use Rattle.std.specs.Option.{option_map}
-use Rattle.mailmap_entries.specs.Folding.{Text}
+use Rattle.command_line.specs.declared.outcome.Outcome.{Outcome}
+use Rattle.command_line.specs.declared.outcome.Outcome.TheVariants.{Clean, Found}
 use Rattle.mailmap_grammar.specs.Lines.{FaultKind, is_comment, no_email, missing_closing_bracket, empty_email, nothing_to_map, unclosed_second}
 use Rattle.mailmap_grammar.specs.CanonicalText.{bracketed_email, email_part, name_part}
 use Rattle.mailmap_entries.specs.Entries.{Mapping}
 use Rattle.mailmap_findings.specs.Findings.{NewContact, Finding, FindingKind, fault, ignored_text, git_reads, no_effect, itself_mapped}
 use Rattle.mailmap_findings.specs.Git.{GitReading, Nothing, Entry, Lines}
 use Rattle.mailmap_redundancy.specs.declared.located.Position.{Position}
-pub use Rattle.command_line.specs.Shown.{shown}
-use Rattle.verify_command.specs.Kinds.{finding_kind, kind_level, kind_name, level_name}
-use Rattle.verify_command.specs.Shortened.{short_contact, shortened}
+use Rattle.command_line.specs.Shown.{shown}
+use Rattle.verify_command.specs.Json.{FileLine, Notice, object_line}
+use Rattle.verify_command.specs.Kinds.{finding_kind, kind_level, kind_name, level_name, contact_kind}
+use Rattle.verify_command.specs.Settings.{Choices, counts, is_json, is_reported, mailmap_names}
 use Rattle.verify_command.specs.declared.kinds.Kind.{Kind}
-use Rattle.command_line.specs.declared.outcome.Outcome.{Outcome}
-use Rattle.verify_command.specs.Json.{FileLine, object_line}
-use Rattle.verify_command.specs.Settings.{Choices, counts, formatted, if_reported, outcome_if}
+use Rattle.verify_command.specs.declared.report.Piece.{Piece as the_piece}
+use Rattle.mailmap_contacts.specs.Contacts.{Tally, contacts_from, tallied}
+use Rattle.mailmap_snapshot.specs.Contacts.{contact_line}
+use Rattle.mailmap_contacts.specs.Comparisons.{AreContactFindings, ContactFinding, first_line_of, git_answers, no_contact, same_email, same_name}
+use Rattle.mailmap_findings.specs.Positions.{whole_lines}
+use Rattle.mailmap_findings.specs.Remarks.{AreRemarks, Remark, found as remark_found, unneeded as remark_unneeded}
+use Rattle.mailmap_suggestions.specs.Counted.{other_git_answers}
+use Rattle.mailmap_suggestions.specs.Histories.{histories_of}
+use Rattle.mailmap_suggestions.specs.Forms.{Histories}
+use Rattle.verify_command.specs.Arguments.{Wanted, contacts_name}
+use Rattle.verify_command.specs.declared.kinds.Kind.TheVariants as kind
+
+-- ---- long texts, which are cut, so that a report stays short however often they come
+
+-- a character begins so many bytes before the end of the first 256, and goes beyond them
+abbrev pub crosses : ℕ → Text → Bool
+crosses back text =
+    is_some (decoded (drop (256 - back) text)).char && nat_lt back (decoded (drop (256 - back) text)).size
+
+-- the first 256 bytes, or up to three fewer so that no character is cut
+abbrev pub front_len : Text → ℕ
+front_len text = if crosses 1 text then 255 else if crosses 2 text then 254 else if crosses 3 text then 253 else 256
+
+-- a text of more than 256 bytes is shown as its front and two dots, a shorter one whole
+unfoldable pub shortened : Text → Text
+shortened text = if nat_lt 256 (length text) then take (front_len text) text ++ codes ".." else text
+
+-- a contact with its texts shortened
+abbrev pub short_contact : Text → Text → Text
+short_contact name email = contact_line (shortened name) (shortened email)
+
+-- ---- places
 
 -- the name of a buffer in messages: its path, or without paths that of standard input
 abbrev pub file_name : List Text → ℕ → Text
 file_name [] buffer = codes "<stdin>"
 file_name (path ∷ paths) buffer = slice_index_or (path ∷ paths) buffer []
 
+abbrev pub place_at : List Text → ℕ → ℕ → FileLine
+place_at paths buffer line = record { file = file_name paths buffer; line = line }
+
 -- FILE:LINE
+abbrev pub place_text : FileLine → Text
+place_text l = l.file ++ 58 ∷ decimal l.line
+
 abbrev pub position_text : List Text → ℕ → ℕ → Text
-position_text paths buffer line = file_name paths buffer ++ 58 ∷ decimal line
+position_text paths buffer line = place_text (place_at paths buffer line)
 
 -- FILE:LINE, FILE:LINE
 abbrev pub positions_text : List Text → List Position → Text
 positions_text paths [] = []
 positions_text paths (p ∷ ps) =
     position_text paths p.buffer p.line ++ flat_map (λ q. codes ", " ++ position_text paths q.buffer q.line) ps
+
+-- ---- what findings say
 
 abbrev pub fault_text : FaultKind → Text
 fault_text no_email = codes "no email in brackets"
@@ -58,88 +99,137 @@ git_text (Lines count) = codes "it as " ++ decimal count ++ codes " lines"
 abbrev pub is_email_byte : ℕ → Bool
 is_email_byte b = b == 60 || b == 62 || b == 64
 
--- it has none of these bytes, and doesn't begin with `#`
-abbrev pub looks_like_name : Text → Bool
-looks_like_name text = not (is_comment text) && not (list_any is_email_byte text)
-
--- what to do about an ignored text
-abbrev pub cure_text : Text → Text
-cure_text text = if looks_like_name text then codes " (an old name needs an email after it)" else []
+-- what to do about an ignored text, unless it begins with `#` or has one of these bytes
+unfoldable pub cure_text : Text → Text
+cure_text text = if is_comment text || list_any is_email_byte text then [] else codes " (an old name needs an email after it)"
 
 -- what the line beside one without effect says
-abbrev pub says_text : Bool → Text
+unfoldable pub says_text : Bool → Text
 says_text true = codes " says the same"
 says_text false = codes " says something else"
 
--- the lines that map a contact
-unfoldable pub by_text : List Text → Position → Option Position → Text
-by_text paths line second = codes " by " ++ positions_text paths (line ∷ option_to_list second)
-
-abbrev pub mapping_text : NewContact → NewContact → Text
-mapping_text c to = contact_text c ++ codes " is itself mapped, to " ++ contact_text to
-
 -- what a finding says
-abbrev pub reported_text : List Text → FindingKind → Text
-reported_text paths (fault f) = fault_text f.kind
-reported_text paths (ignored_text text) = codes "ignored text: " ++ shortened text ++ cure_text text
-reported_text paths (git_reads reading) = codes "git reads " ++ git_text reading
-reported_text paths (no_effect beside is_same) =
+abbrev pub message_text : List Text → FindingKind → Text
+message_text paths (fault f) = fault_text f.kind
+message_text paths (ignored_text text) = codes "ignored text: " ++ shortened text ++ cure_text text
+message_text paths (git_reads reading) = codes "git reads " ++ git_text reading
+message_text paths (no_effect beside is_same) =
     codes "no effect: " ++ position_text paths beside.buffer beside.line ++ says_text is_same
-reported_text paths (itself_mapped c to line second) = mapping_text c to ++ by_text paths line second
+message_text paths (itself_mapped c to line second) = contact_text c ++ codes " is itself mapped, to "
+    ++ contact_text to ++ codes " by " ++ positions_text paths (line ∷ option_to_list second)
 
--- what stands between the place of a finding and what it says
-unfoldable pub level_text : Kind → Text
-level_text kind = codes ": " ++ level_name (kind_level kind) ++ codes ": "
-
--- what stands behind that
-unfoldable pub kind_text : Kind → Text
-kind_text kind = codes " [" ++ kind_name kind ++ codes "]"
-
--- `: LEVEL: TEXT [KIND]`
-abbrev pub labelled : Kind → Text → Text
-labelled kind text = level_text kind ++ text ++ kind_text kind
-
--- a finding, before escapes
-abbrev pub finding_text : List Text → Finding → Text
-finding_text paths f =
-    position_text paths f.position.buffer f.position.line
-    ++ labelled (finding_kind f.kind) (reported_text paths f.kind)
-
--- the line of a finding
-abbrev pub finding_line : List Text → Finding → Text
-finding_line paths f = shown (finding_text paths f) ++ 10 ∷ []
-
--- ---- as JSON
-
-abbrev pub place_at : List Text → ℕ → ℕ → FileLine
-place_at paths buffer line = record { file = file_name paths buffer; line = line }
-
--- the other line that a finding refers to, the first one if there are two
+-- the other line that it refers to, the first one if there are two
 abbrev pub referred_line : List Text → FindingKind → Option FileLine
-referred_line paths (fault f) = None
-referred_line paths (ignored_text text) = None
-referred_line paths (git_reads reading) = None
 referred_line paths (no_effect beside is_same) = Some (place_at paths beside.buffer beside.line)
 referred_line paths (itself_mapped c to line second) = Some (place_at paths line.buffer line.line)
+referred_line paths _ = None
 
-abbrev pub finding_object : List Text → Finding → Text
-finding_object paths f = object_line (finding_kind f.kind) (place_at paths f.position.buffer f.position.line)
-    (reported_text paths f.kind) (referred_line paths f.kind)
+-- ---- notices of findings
+
+abbrev pub finding_notice : List Text → Finding → Notice
+finding_notice paths f = record {
+  kind = finding_kind f.kind;
+  place = place_at paths f.position.buffer f.position.line;
+  message = message_text paths f.kind;
+  other = referred_line paths f.kind;
+}
+
+-- a notice, before escapes
+abbrev pub notice_text : Notice → Text
+notice_text n = place_text n.place ++ codes ": " ++ level_name (kind_level n.kind) ++ codes ": "
+    ++ n.message ++ codes " [" ++ kind_name n.kind ++ codes "]"
+
+-- a line of output with escapes
+abbrev pub shown_line : Text → Text
+shown_line text = shown text ++ 10 ∷ []
+
+-- ---- output in pieces, some of which are findings that count
+
+pub record Piece : Type 0 where
+  pub text : Text
+  pub counts : Bool
+
+-- the specification's view of a piece
+abbrev pub piece_of : the_piece → Piece
+piece_of p = record { text = p.text.items; counts = p.counts }
+
+-- the text of pieces that are printed one after another
+abbrev pub text_of : List Piece → Text
+text_of pieces = flat_map (λ p. p.text) pieces
+
+-- `Found` if a piece counts
+abbrev pub outcome_of : List Piece → Outcome
+outcome_of pieces = if list_any (λ p. p.counts) pieces then Found else Clean
+
+-- this is the text of the pieces, and their outcome
+abbrev pub Says : Outcome → Text → List Piece → Type 0
+Says outcome text pieces = (text ≡ text_of pieces) × (outcome ≡ outcome_of pieces)
 
 -- ---- the report
 
-abbrev pub formatted_finding : Choices → List Text → Finding → Text
-formatted_finding c paths f = formatted c (finding_line paths f) (finding_object paths f)
+-- a line or an object, as the format asks for; nothing if the kind is not reported
+abbrev pub reported_text : Choices → Notice → Text
+reported_text c n = if is_reported c n.kind then (if is_json c then object_line n else shown_line (notice_text n)) else []
 
-abbrev pub reported_line : Choices → List Text → Finding → Text
-reported_line c paths f = if_reported c (finding_kind f.kind) (formatted_finding c paths f)
+abbrev pub notice_piece : Choices → Notice → Piece
+notice_piece c n = record { text = reported_text c n; counts = counts c n.kind }
+
+abbrev pub finding_piece : Choices → List Text → Finding → Piece
+finding_piece c paths f = notice_piece c (finding_notice paths f)
 
 abbrev pub report : Choices → List Text → List Finding → Text
-report c paths findings = flat_map (reported_line c paths) findings
+report c paths findings = text_of (map (finding_piece c paths) findings)
 
-abbrev pub finding_counts : Choices → Finding → Bool
-finding_counts c f = counts c (finding_kind f.kind)
+-- ---- findings about contacts
 
--- whether there are findings that count
-abbrev pub outcome_of : Choices → List Finding → Outcome
-outcome_of c findings = outcome_if (list_any (finding_counts c) findings)
+-- an answer with its texts shortened, and how often it comes
+abbrev pub counted_contact : Tally → Text
+counted_contact a = short_contact a.contact.name a.contact.email ++ codes " (" ++ decimal a.seen.count ++ 41 ∷ []
+
+-- what a finding says, without its place, its level and its kind
+abbrev pub contact_words : ContactFinding → Text
+contact_words (no_contact line) = codes "no contact"
+contact_words (same_email a p) = counted_contact a ++ codes " has the email of " ++ counted_contact p
+contact_words (same_name a p) = counted_contact a ++ codes " has the name of " ++ counted_contact p
+contact_words (git_answers a) = codes "git answers " ++ short_contact a.contact.name a.contact.email
+
+-- the first line with the answer that another is compared with
+abbrev pub compared_line : Text → ContactFinding → Option FileLine
+compared_line file (same_email a p) = Some (record { file = file; line = p.seen.first_line })
+compared_line file (same_name a p) = Some (record { file = file; line = p.seen.first_line })
+compared_line file _ = None
+
+-- `file` is the name of the file of contacts
+abbrev pub contact_notice : Text → ContactFinding → Notice
+contact_notice file f = record {
+  kind = contact_kind f;
+  place = record { file = file; line = first_line_of f };
+  message = contact_words f;
+  other = compared_line file f;
+}
+
+-- the findings about the contacts on lines, with the entries of mailmaps as this library reads them and as git does
+abbrev pub AreFoundWith : Histories → List Text → List ContactFinding → Type 0
+AreFoundWith h lines found = AreContactFindings h.ours (other_git_answers h (tallied (contacts_from 1 lines))) lines found
+
+-- ---- the report with contacts
+
+abbrev pub remark_notice : List Text → Remark → Notice
+remark_notice paths (remark_found f) = finding_notice paths f
+remark_notice paths (remark_unneeded p) = record {
+  kind = kind.Unneeded;
+  place = place_at paths p.buffer p.line;
+  message = codes "no contact needs it";
+  other = None;
+}
+
+-- the remarks on the mailmaps, and after them the findings about the contacts
+abbrev pub pieces_beside : Choices → List Text → Text → List Remark → List ContactFinding → List Piece
+pieces_beside c paths file remarks found =
+    map (λ r. notice_piece c (remark_notice paths r)) remarks ++ map (λ f. notice_piece c (contact_notice file f)) found
+
+-- The text is the report of the mailmaps with these contacts, followed by the findings about the contacts.
+abbrev pub IsReportBeside : Wanted → List Text → Text → Outcome → Text → Type 0
+IsReportBeside w mailmaps contacts outcome text = (remarks : List Remark) × (found : List ContactFinding)
+    × AreRemarks mailmaps contacts remarks × AreFoundWith (histories_of mailmaps) (whole_lines contacts) found
+    × Says outcome text (pieces_beside w.choices (mailmap_names w.choices w.paths) (contacts_name w) remarks found)

@@ -1,9 +1,15 @@
 //! What arguments can ask for.
 ghost use Rattle.std.specs.Prelude.{◌≡◌};
 ghost use Rattle.verify_command.specs.declared.asked.ParseError.TheVariants.{Memory};
+ghost use Rattle.command_line.specs.Files.{texts};
+ghost use Rattle.std.specs.List.{list_any};
+ghost use Rattle.verify_command.specs.Settings.{choices_of, counts, input_name, is_json, is_reported, level_rank};
+ghost use Rattle.verify_command.specs.Settings.{mailmap_names, no_choices};
+ghost use Rattle.verify_command.specs.Kinds.{same_kind};
 
 use crate::kinds::{Kind, Level};
-use std::alloc::{AllocError, AllocFailed};
+use std::alloc::{AllocError, AllocFailed, Global};
+use std::slice;
 
 pub const USAGE: &str = "\
 usage: mailmap_verify [OPTION..] [--] [FILE..]
@@ -79,42 +85,14 @@ pub struct Request {
     pub paths: Vec<Vec<u8>>,
 }
 
-impl Request {
-    /// What to perform.
-    pub fn task(&self) -> Task<'_> {
-        Task {
-            mode: self.mode,
-            contacts: self.contacts.as_slice(),
-            settings: &self.settings,
-            paths: self.paths.as_slice(),
-        }
-    }
-}
-
-/// A request that is lent to be performed.
-#[derive(Clone, Copy, Debug, PartialEq, Eq)]
-pub struct Task<'a> {
-    pub mode: Mode,
-    /// As in [`Request`].
-    pub contacts: &'a [u8],
-    pub settings: &'a Settings,
-    pub paths: &'a [Vec<u8>],
-}
-
-/// An option with a value.
+/// An option with a value. The first two are also modes.
 #[derive(Clone, Copy, Debug, PartialEq, Eq)]
 pub enum Setting {
-    /// `--contacts`, which is also a mode.
     Contacts,
-    /// `--suggest`, which is also a mode.
     Suggest,
-    /// `-S` or `--severity`.
     Severity,
-    /// `-e` or `--exclude`.
     Exclude,
-    /// `-f` or `--format`.
     Format,
-    /// `--stdin-name`.
     StdinName,
 }
 
@@ -132,9 +110,9 @@ impl Setting {
     }
 }
 
-/// Errors in the arguments.
+/// Why arguments can't be parsed.
 #[derive(Debug, Drop, PartialEq, Eq)]
-pub enum Misuse {
+pub enum ParseError {
     /// An unknown option.
     UnknownOption(Vec<u8>),
     /// An option for a mode after another one or itself.
@@ -145,12 +123,6 @@ pub enum Misuse {
     UnknownValue(Setting, Vec<u8>),
     /// An option that the mode doesn't use.
     Unused(Mode, Setting),
-}
-
-/// Why arguments can't be parsed.
-#[derive(Debug, Drop, PartialEq, Eq)]
-pub enum ParseError {
-    Misuse(Misuse),
     Memory,
 }
 
@@ -167,5 +139,82 @@ impl<T: Drop> From<AllocFailed<T>> for ParseError {
 
     fn from(_error: AllocFailed<T>) -> ParseError {
         ParseError::Memory
+    }
+}
+
+impl Settings {
+    /// Reports everything, and counts all but notes.
+    pub fn new(alloc: Global) -> Settings
+        ensures { choices_of result ≡ no_choices }
+    {
+        Settings {
+            severity: None,
+            excluded: Vec::new(alloc),
+            format: None,
+            stdin_name: None,
+        }
+    }
+
+    /// Whether findings of this kind are reported.
+    pub fn reports(&self, kind: Kind) -> bool
+        ensures { result ≡ is_reported (choices_of self.now) kind }
+    {
+        let least = self.severity.unwrap_or(Level::Note);
+        rank(least) <= rank(kind.level()) && !self.excludes(kind)
+    }
+
+    fn excludes(&self, kind: Kind) -> bool
+        ensures { result ≡ list_any (same_kind kind) self.now.excluded.items }
+    {
+        let name = kind.name().as_bytes();
+        self.excluded
+            .iter()
+            .any(|other| name == other.name().as_bytes())
+    }
+
+    /// Whether findings of this kind count for the exit status.
+    pub fn counts(&self, kind: Kind) -> bool
+        ensures { result ≡ counts (choices_of self.now) kind }
+    {
+        let least = self.severity.unwrap_or(Level::Warning);
+        self.reports(kind) && rank(least) <= rank(kind.level())
+    }
+
+    /// Whether findings are objects of JSON.
+    pub fn is_json(&self) -> bool
+        ensures { result ≡ is_json (choices_of self.now) }
+    {
+        matches!(self.format, Some(Format::Json))
+    }
+
+    /// The names of the mailmaps in messages; none if the mailmap is standard input under its usual name.
+    pub fn mailmap_names<'a>(&'a self, paths: &'a [Vec<u8>]) -> &'a [Vec<u8>]
+        ensures { texts result.now ≡ mailmap_names (choices_of self.now) (texts paths.now) }
+    {
+        match (&self.stdin_name, paths) {
+            (Some(name), []) => slice::from_ref(name),
+            _ => paths,
+        }
+    }
+
+    /// The name of standard input in messages.
+    pub fn input_name(&self) -> &[u8]
+        ensures { result.now ≡ input_name (choices_of self.now) }
+    {
+        match &self.stdin_name {
+            Some(name) => name.as_slice(),
+            None => b"<stdin>",
+        }
+    }
+}
+
+// Levels by how bad they are.
+fn rank(level: Level) -> u8
+    ensures { result ≡ level_rank level }
+{
+    match level {
+        Level::Note => 0,
+        Level::Warning => 1,
+        Level::Error => 2,
     }
 }

@@ -1,21 +1,31 @@
-//! Explains a line of contacts.
-ghost use Rattle.std.specs.Prelude.{◌≡◌, ◌++◌, IfOk, OnErr, OnOk, codes, map};
-ghost use Rattle.mailmap_snapshot.specs.Contacts.{contact_with};
-ghost use Rattle.mailmap_findings.specs.Explanations.{explained};
+//! Explains contacts line by line, while they are read.
+ghost use Rattle.std.specs.Prelude.{◌≡◌, ◌++◌, IfOk, OnErr, OnOk, map, ◌⊎◌, [], IfErr};
 ghost use Rattle.mailmap_redundancy.specs.Origins.{origins};
 ghost use Rattle.mailmap_entries.specs.Semantics.{answer_of};
-ghost use Rattle.mailmap_grammar.specs.Lines.{cut, trimmed_contact};
 ghost use Rattle.mailmap_findings.specs.Positions.{located_lines, located};
 ghost use Rattle.mailmap_redundancy.specs.Redundancy.{AreEffective, entries};
-ghost use Rattle.verify_command.specs.Explained.{contact_explained, explained_line, mapped_text};
+ghost use Rattle.verify_command.specs.Explained.{explained_line, mapped_text, LeavesLines, StopsIn, each_line};
+ghost use Rattle.std.specs.Io.KnownBytes.{Appends, IsAtEnd};
+ghost use Rattle.command_line.specs.Failures.{IsOfInput};
+ghost use Rattle.command_line.specs.Files.{texts};
+ghost use Rattle.verify_command.specs.Task.{FailsFor, IsOfMailmap, LeavesExplained, wanted_of};
 
-use crate::report::{push_positions, shown_text};
+use crate::asked::{Mode, Request};
+use crate::failure::TaskFailure;
+use crate::report::{push_positions, shown_line};
 use answer_cache::{AnswerCache, hash_of};
-use mailmap_findings::explain::{Explanation, Explanations};
+use bstr::ByteSlice;
+use command_line::failure::Failure;
+use command_line::files::{FileSystem, list_of, read_files};
+use command_line::lines::read_lines;
+use command_line::outcome::Outcome;
+use command_line::printer::Printer;
+use mailmap_findings::explain::Explanations;
 use mailmap_findings::verify::Mailmaps;
 use mailmap_grammar::contacts::{ParsedContact, parse_name_and_email, trim};
 use mailmap_snapshot::check::push_contact;
 use std::alloc::{AllocError, Global};
+use std::io::{ErrorKind, Read, Write};
 use std::marker::Model;
 
 /// Explains contacts line by line using mailmaps.
@@ -110,22 +120,14 @@ impl<'p, 'm, 'a> Explainer<'p, 'm, 'a> {
         if line.is_empty() {
             return Ok(text);
         }
-        self.push_explained(&mut text, line)?;
-        let mut text = shown_text(self.alloc, text)?;
-        text.push(b'\n')?;
-        Ok(text)
-    }
-
-    // Appends the explanation of a trimmed line, before escapes.
-    fn push_explained(&self, text: &mut Vec<u8>, line: &[u8]) -> Result<(), AllocError>
-        ensures { OnOk result (text.new.items
-            ≡ text.old.items ++ contact_explained self.now line.now (trimmed_contact (cut line.now))) }
-    {
         let ParsedContact::Closed { name, email, .. } = parse_name_and_email(line) else {
-            return push_no_contact(text, line);
+            text.extend_from_slice(line)?;
+            text.extend_from_slice(b" is no contact")?;
+            return shown_line(self.alloc, text);
         };
-        push_contact(text, name, email)?;
-        self.push_mapped(text, name, email)
+        push_contact(&mut text, name, email)?;
+        self.push_mapped(&mut text, name, email)?;
+        shown_line(self.alloc, text)
     }
 
     // Appends what a contact maps to, and by which lines.
@@ -138,30 +140,95 @@ impl<'p, 'm, 'a> Explainer<'p, 'm, 'a> {
             return text.extend_from_slice(b" is not mapped");
         };
         text.extend_from_slice(b" is ")?;
-        push_replaced(text, &found, name, email)?;
+        push_contact(
+            text,
+            found.name.unwrap_or(name),
+            found.email.unwrap_or(email),
+        )?;
         text.extend_from_slice(b" by ")?;
         push_positions(text, self.paths, found.first, found.second)
     }
 }
 
-fn push_no_contact(text: &mut Vec<u8>, line: &[u8]) -> Result<(), AllocError>
-    ensures { OnOk result (text.new.items ≡ text.old.items ++ (line.now ++ codes " is no contact")) }
+/// Explains the contacts on the input using the mailmaps, which are read first.
+///
+/// Output is written as lines come in: before the next read, all lines that have ended are explained. So a program that
+/// talks through pipes gets its answer after each line. The first failure ends the run.
+pub(crate) fn explain<F: FileSystem, R: Read, W: Write>(
+    system: &F,
+    alloc: Global,
+    request: &Request,
+    input: &mut R,
+    output: &mut W,
+) -> Result<Outcome, TaskFailure>
+    requires { request.now.mode ≡ Mode.Explain }
+    // All of the input is read, and exactly its explanations are written. After a failure, those of the first whole
+    // lines are, or a prefix of them.
+    ensures leaves { LeavesExplained (F.at system.now) (texts request.now.paths.items) (R.remaining input.old)
+        (R.remaining input.new) W.contents output.old output.new result }
+    ensures reads_all { OnOk result (IsAtEnd (R.remaining input.new)) }
+    ensures unread_at_files { IfErr result (λ e. IsOfMailmap e → input.new ≡ input.old) }
+    ensures fails { IfErr result (FailsFor (F.at system.now) (R.remaining input.old) (wanted_of request.now)) }
 {
-    text.extend_from_slice(line)?;
-    text.extend_from_slice(b" is no contact")
+    let paths = request.paths.as_slice();
+    let mailmaps = read_files(system, alloc, paths)?;
+    let buffers = list_of(alloc, mailmaps.as_slice())?;
+    let parsed = Mailmaps::read(alloc, buffers.as_slice())?;
+    let mut explainer = Explainer::new(alloc, paths, &parsed)?;
+    explain_input(alloc, &mut explainer, input, output)?;
+    Ok(Outcome::Clean)
 }
 
-fn push_replaced(
-    text: &mut Vec<u8>,
-    found: &Explanation<'_>,
-    name: &[u8],
-    email: &[u8],
-) -> Result<(), AllocError>
-    ensures { OnOk result (text.new.items ≡ text.old.items ++ contact_with (explained found.now) name.now email.now) }
+fn explain_input<R: Read, W: Write>(
+    alloc: Global,
+    explainer: &mut Explainer<'_, '_, '_>,
+    input: &mut R,
+    output: &mut W,
+) -> Result<(), Failure>
+    ensures leaves { LeavesLines (explained_line explainer.old) (R.remaining input.old) (R.remaining input.new)
+        (W.contents output.old) (W.contents output.new) result }
+    ensures only { IfErr result (λ e. IsOfInput e ⊎ (e ≡ Failure.Memory) ⊎ (e ≡ Failure.Output)) }
 {
-    push_contact(
-        text,
-        found.name.unwrap_or(name),
-        found.email.unwrap_or(email),
-    )
+    let mut printer = Printer::new(alloc)?;
+    let mut held = Vec::new(alloc);
+    let mut text = Vec::new(alloc);
+    for _ in 0..u64::MAX {
+        let more = read_lines(input, &mut held, &mut text)?;
+        print_lines(alloc, explainer, text.as_slice(), &mut printer, output)?;
+        if !more {
+            return Ok(());
+        }
+    }
+    // Not reached: no input has so many reads.
+    Err(Failure::Input {
+        cause: ErrorKind::Other,
+    })
+}
+
+fn print_lines<W: Write>(
+    alloc: Global,
+    explainer: &mut Explainer<'_, '_, '_>,
+    text: &[u8],
+    printer: &mut Printer,
+    output: &mut W,
+) -> Result<(), Failure>
+    requires nothing_is_held { printer.old ≡ [] }
+    ensures ok { OnOk result (Appends (W.contents output.old) (W.contents output.new)
+        (each_line (explained_line explainer.old) text.now)) }
+    ensures err { IfErr result (StopsIn (explained_line explainer.old) text.now (W.contents output.old)
+        (W.contents output.new)) }
+    ensures empty { OnOk result (printer.new ≡ []) }
+    ensures same { explainer.new ≡ explainer.old }
+    ensures only { IfErr result (λ e. (e ≡ Failure.Memory) ⊎ (e ≡ Failure.Output)) }
+{
+    let mut explained = Vec::new(alloc);
+    for line in text.lines_with_terminator() {
+        explained.clear();
+        let Ok(()) = explainer.push_explained_line(&mut explained, line) else {
+            printer.flush(output)?;
+            return Err(Failure::Memory);
+        };
+        printer.print(output, explained.as_slice())?;
+    }
+    printer.flush(output)
 }

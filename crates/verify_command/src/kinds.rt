@@ -2,13 +2,11 @@
 ghost use Rattle.std.specs.Prelude.{◌≡◌, IfSome, Some};
 ghost use Rattle.mailmap_contacts.specs.Answers.{finding_view};
 ghost use Rattle.mailmap_findings.specs.Findings.{kind_of};
-ghost use Rattle.mailmap_findings.specs.Remarks.{remark_of};
-ghost use Rattle.mailmap_grammar.specs.Lines.{fault_of};
-ghost use Rattle.verify_command.specs.Kinds.{contact_kind, fault_kind, finding_kind, kind_level, kind_name, level_name, remark_kind};
+ghost use Rattle.verify_command.specs.Kinds.{contact_kind, finding_kind, kind_level, kind_name, kind_named};
+ghost use Rattle.verify_command.specs.Kinds.{level_name};
 ghost use Rattle.verify_command.specs.declared.kinds.Kind.{Kind as TheKind};
 
 use mailmap_contacts::comparisons::{ContactFinding, Shared};
-use mailmap_findings::remarks::Remark;
 use mailmap_findings::verify::FindingKind;
 use mailmap_grammar::lines::Error;
 
@@ -75,32 +73,15 @@ impl Kind {
         ensures { result ≡ finding_kind (kind_of finding.now) }
     {
         match finding {
-            FindingKind::Fault(fault) => Kind::of_fault(fault),
+            FindingKind::Fault(Error::NoEmail { .. }) => Kind::NoEmail,
+            FindingKind::Fault(Error::MissingClosingBracket { .. }) => Kind::UnclosedEmail,
+            FindingKind::Fault(Error::EmptyEmail { .. }) => Kind::EmptyEmail,
+            FindingKind::Fault(Error::NothingToMap { .. }) => Kind::NothingToMap,
+            FindingKind::Fault(Error::UnclosedSecond { .. }) => Kind::UnclosedSecondEmail,
             FindingKind::IgnoredText(_) => Kind::IgnoredText,
             FindingKind::GitReads(_) => Kind::GitReads,
             FindingKind::NoEffect { .. } => Kind::NoEffect,
             FindingKind::ItselfMapped { .. } => Kind::ItselfMapped,
-        }
-    }
-
-    fn of_fault(fault: &Error<'_>) -> Kind
-        ensures { result ≡ fault_kind (fault_of fault.now).kind }
-    {
-        match fault {
-            Error::NoEmail { .. } => Kind::NoEmail,
-            Error::MissingClosingBracket { .. } => Kind::UnclosedEmail,
-            Error::EmptyEmail { .. } => Kind::EmptyEmail,
-            Error::NothingToMap { .. } => Kind::NothingToMap,
-            Error::UnclosedSecond { .. } => Kind::UnclosedSecondEmail,
-        }
-    }
-
-    pub fn of_remark(remark: &Remark<'_>) -> Kind
-        ensures { result ≡ remark_kind (remark_of remark.now) }
-    {
-        match remark {
-            Remark::Found(finding) => Kind::of_finding(&finding.kind),
-            Remark::Unneeded(_) => Kind::Unneeded,
         }
     }
 
@@ -139,15 +120,14 @@ impl Kind {
 
     /// The kind of this name, `None` if no kind has it.
     pub fn of_name(name: &[u8]) -> Option<Kind>
+        ensures first { result ≡ kind_named name.now }
         ensures named { IfSome result (λ kind. kind_name kind ≡ name.now) }
         ensures each { (kind : TheKind) → kind_name kind ≡ name.now → result ≡ Some kind }
     {
-        for kind in KINDS.iter() {
-            if kind.name().as_bytes() == name {
-                return Some(*kind);
-            }
-        }
-        None
+        KINDS
+            .iter()
+            .find(|kind| kind.name().as_bytes() == name)
+            .copied()
     }
 
     pub fn level(self) -> Level
@@ -160,14 +140,8 @@ impl Kind {
             | Kind::NothingToMap
             | Kind::UnclosedSecondEmail
             | Kind::NoContact => Level::Error,
-            Kind::IgnoredText
-            | Kind::GitReads
-            | Kind::NoEffect
-            | Kind::ItselfMapped
-            | Kind::Unneeded
-            | Kind::SameEmail
-            | Kind::GitAnswers => Level::Warning,
             Kind::SameName => Level::Note,
+            _ => Level::Warning,
         }
     }
 }

@@ -1,29 +1,72 @@
-//! Reports findings as text.
-ghost use Rattle.std.specs.Prelude.{◌≡◌, ◌++◌, ◌∷◌, ◌⊎◌, ℕ, codes, map, option_to_list, take, IfErr, IfOk, OnErr, OnOk};
+//! Findings and notices as text, printed in pieces.
+ghost use Rattle.std.specs.Prelude.{◌≡◌, ◌++◌, ◌∷◌, ℕ, codes, false, map, option_to_list, take, true, IfErr, IfOk};
+ghost use Rattle.std.specs.Prelude.{OnErr, OnOk, List, if◌then◌else◌};
 ghost use Rattle.std.specs.List.{list_any};
-ghost use Rattle.std.specs.Io.KnownBytes.{Appends};
-ghost use Rattle.mailmap_findings.specs.Findings.{contact_of, finding_of, kind_of};
+ghost use Rattle.std.specs.Io.KnownBytes.{Appends, IsAtEnd};
+ghost use Rattle.mailmap_findings.specs.Findings.{contact_of, kind_of};
 ghost use Rattle.mailmap_grammar.specs.Lines.{fault_of};
 ghost use Rattle.command_line.specs.Files.{texts};
-ghost use Rattle.command_line.specs.Printing.{IsUnderway};
-ghost use Rattle.verify_command.specs.Report.{by_text, contact_text, cure_text, finding_text, reported_text, fault_text, file_name, finding_line, formatted_finding, is_email_byte, kind_text, labelled, level_text, looks_like_name, mapping_text, outcome_of, position_text, positions_text, report, reported_line, says_text, shown};
+ghost use Rattle.verify_command.specs.Json.{file_line_of, notice_of};
+ghost use Rattle.verify_command.specs.Report.{Piece as ThePiece, contact_text, cure_text, entry_text, fault_text};
+ghost use Rattle.verify_command.specs.Report.{file_name, finding_piece, git_text, is_email_byte, message_text};
+ghost use Rattle.verify_command.specs.Report.{notice_piece, notice_text, outcome_of, piece_of, place_at, place_text};
+ghost use Rattle.verify_command.specs.Report.{position_text, positions_text, report, reported_text, says_text};
+ghost use Rattle.verify_command.specs.Report.{shortened, shown_line, text_of};
 ghost use Rattle.verify_command.specs.Settings.{choices_of};
-ghost use Rattle.verify_command.specs.Shortened as spec;
+ghost use Rattle.verify_command.specs.Task.{EndsPrinting, FailsFor, IsOfMailmap, IsReport, Leaves, reads_mailmap};
+ghost use Rattle.verify_command.specs.Task.{wanted_of};
+ghost use Rattle.std.specs.Iterator.{YieldsFirstBy};
+ghost use Rattle.command_line.specs.declared.outcome.Outcome.TheVariants.{Found as TheFound};
+ghost use Rattle.std.specs.Option.{option_copied, option_map};
+ghost use Rattle.mailmap_entries.specs.Entries.{mapping_of};
+ghost use Rattle.mailmap_findings.specs.Git.{git_reading_of};
+ghost use Rattle.mailmap_grammar.specs.CanonicalText.{bracketed_email, name_part};
 
-use crate::asked::Settings;
-use crate::git::push_reading;
-use crate::json::finding_object;
+use crate::asked::{Mode, Request, Settings};
+use crate::failure::TaskFailure;
+use crate::json::object_line;
 use crate::kinds::Kind;
-use crate::shortened::{push_short_contact, push_shortened};
-use command_line::failure::Failure;
+use crate::notice::{Notice, Place, finding_notice};
+use crate::shortened::{push_short_contact, push_shortened, shortened};
+use crate::task::read_mailmaps;
+use command_line::files::{FileSystem, list_of};
 use command_line::outcome::Outcome;
 use command_line::printer::Printer;
 use command_line::shown::{may_need_escapes, push_shown};
 use itoa::Buffer;
-use mailmap_findings::verify::{Contact, Finding, FindingKind, Findings, Position};
+use mailmap_entries::Entry;
+use mailmap_findings::verify::{
+    Contact, FindingKind, Findings, GitReading, Mailmaps, Position, Verification,
+};
 use mailmap_grammar::lines::Error;
+use mailmap_grammar::writing::{push_email, push_name};
 use std::alloc::{AllocError, Global};
-use std::io::Write;
+use std::io::{Read, Write};
+
+/// Prints the findings in the mailmaps.
+pub(crate) fn verify<F: FileSystem, R: Read, W: Write>(
+    system: &F,
+    alloc: Global,
+    request: &Request,
+    input: &mut R,
+    output: &mut W,
+) -> Result<Outcome, TaskFailure>
+    requires { request.now.mode ≡ Mode.Verify }
+    ensures leaves { Leaves true (IsReport (F.at system.now) (R.remaining input.old) (wanted_of request.now))
+        W.contents output.old output.new result }
+    ensures reads_all { reads_mailmap (wanted_of request.now) ≡ true → OnOk result (IsAtEnd (R.remaining input.new)) }
+    ensures unread { reads_mailmap (wanted_of request.now) ≡ false → input.new ≡ input.old }
+    ensures unread_at_files { IfErr result (λ e. IsOfMailmap e → input.new ≡ input.old) }
+    ensures fails { IfErr result (FailsFor (F.at system.now) (R.remaining input.old) (wanted_of request.now)) }
+{
+    let mailmaps = read_mailmaps(system, alloc, request, input)?;
+    let buffers = list_of(alloc, mailmaps.as_slice())?;
+    let mailmaps = Mailmaps::read(alloc, buffers.as_slice())?;
+    let verification = Verification::new(alloc, &mailmaps)?;
+    let settings = &request.settings;
+    let names = settings.mailmap_names(request.paths.as_slice());
+    print_findings(alloc, settings, names, verification.findings(), output)
+}
 
 /// Prints a line for each finding that is reported.
 ///
@@ -48,136 +91,97 @@ pub fn print_findings<W: Write>(
     paths: &[Vec<u8>],
     findings: Findings<'_, '_>,
     output: &mut W,
-) -> Result<Outcome, Failure>
-    ensures ok { IfOk result (λ outcome. (outcome ≡ outcome_of (choices_of settings.now) findings.entry)
+) -> Result<Outcome, TaskFailure>
+    ensures ok { IfOk result (λ outcome.
+        (outcome ≡ outcome_of (map (finding_piece (choices_of settings.now) (texts paths.now)) findings.entry))
         × Appends (W.contents output.old) (W.contents output.new)
-        (report (choices_of settings.now) (map (λ path. path.items) paths.now) findings.entry)) }
+        (report (choices_of settings.now) (texts paths.now) findings.entry)) }
     ensures err { OnErr result ((count : ℕ) × Appends (W.contents output.old) (W.contents output.new)
-        (take count (report (choices_of settings.now) (map (λ path. path.items) paths.now) findings.entry))) }
-    ensures only { IfErr result (λ e. (e ≡ Failure.Memory) ⊎ (e ≡ Failure.Output)) }
+        (take count (report (choices_of settings.now) (texts paths.now) findings.entry))) }
+    ensures only { IfErr result EndsPrinting }
 {
-    let mut printer = Printer::new(alloc)?;
-    let mut outcome = Outcome::Clean;
-    for finding in findings {
-        outcome = settings.outcome_with(outcome, Kind::of_finding(&finding.kind));
-        print_finding(alloc, settings, paths, &finding, &mut printer, output)?;
-    }
-    printer.flush(output)?;
-    Ok(outcome)
+    let pieces = FindingPieces {
+        settings,
+        names: paths,
+        findings,
+    };
+    print_pieces(alloc, pieces, output)
 }
 
-// Prints the line of a finding if it is reported.
-fn print_finding<W: Write>(
-    alloc: Global,
-    settings: &Settings,
-    paths: &[Vec<u8>],
-    finding: &Finding<'_>,
-    printer: &mut Printer,
-    output: &mut W,
-) -> Result<(), Failure>
-    ensures ok { OnOk result (IsUnderway
-        (printer.old ++ reported_line (choices_of settings.now) (texts paths.now) (finding_of finding.now))
-        (W.contents output.old) (W.contents output.new) printer.new) }
-    ensures err { OnErr result ((count : ℕ) × Appends (W.contents output.old) (W.contents output.new)
-        (take count (printer.old
-        ++ reported_line (choices_of settings.now) (texts paths.now) (finding_of finding.now)))) }
-    ensures only { IfErr result (λ e. (e ≡ Failure.Memory) ⊎ (e ≡ Failure.Output)) }
-{
-    if !settings.reports(Kind::of_finding(&finding.kind)) {
-        return Ok(());
-    }
-    let line = formatted(alloc, settings, paths, finding)?;
-    printer.print(output, line.as_slice())
+// The report on findings.
+#[derive(Drop)]
+struct FindingPieces<'n, 'v, 'a> {
+    settings: &'n Settings,
+    names: &'n [Vec<u8>],
+    findings: Findings<'v, 'a>,
 }
 
-// A finding in the format that is asked for, with a line feed.
-fn formatted(
+impl Pieces for FindingPieces<'_, '_, '_> {
+    ghost left = { λ s. map (finding_piece (choices_of s.settings.now) (texts s.names.now)) s.findings };
+
+    fn next_piece(&mut self, alloc: Global) -> Result<Option<Piece>, AllocError> {
+        let Some(finding) = self.findings.next() else {
+            return Ok(None);
+        };
+        let notice = finding_notice(alloc, self.names, &finding)?;
+        Ok(Some(notice_piece(alloc, self.settings, &notice)?))
+    }
+}
+
+/// The text of a notice if it is reported, and whether it counts.
+pub(crate) fn notice_piece(
     alloc: Global,
     settings: &Settings,
-    paths: &[Vec<u8>],
-    finding: &Finding<'_>,
-) -> Result<Vec<u8>, AllocError>
-    ensures { IfOk result (λ line. line.items
-        ≡ formatted_finding (choices_of settings.now) (texts paths.now) (finding_of finding.now)) }
+    notice: &Notice<'_>,
+) -> Result<Piece, AllocError>
+    ensures { IfOk result (λ piece. piece_of piece ≡ notice_piece (choices_of settings.now) (notice_of notice.now)) }
 {
+    let text = formatted(alloc, settings, notice)?;
+    let counts = settings.counts(notice.kind);
+    Ok(Piece { text, counts })
+}
+
+// A notice in the format that is asked for, with a line feed; nothing if it isn't reported.
+fn formatted(alloc: Global, settings: &Settings, notice: &Notice<'_>) -> Result<Vec<u8>, AllocError>
+    ensures { IfOk result (λ text. text.items ≡ reported_text (choices_of settings.now) (notice_of notice.now)) }
+{
+    if !settings.reports(notice.kind) {
+        return Ok(Vec::new(alloc));
+    }
     if settings.is_json() {
-        return finding_object(alloc, paths, finding);
+        return object_line(alloc, notice);
     }
-    line_of(alloc, paths, finding)
+    line_of(alloc, notice)
 }
 
-// The line of a finding, with its line feed.
-pub(crate) fn line_of(
-    alloc: Global,
-    paths: &[Vec<u8>],
-    finding: &Finding<'_>,
-) -> Result<Vec<u8>, AllocError>
-    ensures { IfOk result (λ line. line.items
-        ≡ finding_line (map (λ path. path.items) paths.now) (finding_of finding.now)) }
+// The line of a notice, as in `team:3: error: no email in brackets [no-email]`.
+fn line_of(alloc: Global, notice: &Notice<'_>) -> Result<Vec<u8>, AllocError>
+    ensures { IfOk result (λ line. line.items ≡ shown_line (notice_text (notice_of notice.now))) }
 {
     let mut text = Vec::new(alloc);
-    push_finding(&mut text, paths, finding)?;
-    let mut line = shown_text(alloc, text)?;
-    line.push(b'\n')?;
-    Ok(line)
-}
-
-// Escapes a line. Few lines need that, so others aren't copied.
-pub(crate) fn shown_text(alloc: Global, text: Vec<u8>) -> Result<Vec<u8>, AllocError>
-    ensures { IfOk result (λ line. line.items ≡ shown text.items) }
-{
-    if !may_need_escapes(text.as_slice()) {
-        return Ok(text);
-    }
-    let mut line = Vec::new(alloc);
-    push_shown(&mut line, text.as_slice())?;
-    Ok(line)
-}
-
-// Appends a finding, before escapes.
-fn push_finding(
-    text: &mut Vec<u8>,
-    paths: &[Vec<u8>],
-    finding: &Finding<'_>,
-) -> Result<(), AllocError>
-    ensures { OnOk result (text.new.items
-        ≡ text.old.items ++ finding_text (map (λ path. path.items) paths.now) (finding_of finding.now)) }
-{
-    let kind = Kind::of_finding(&finding.kind);
-    push_position(text, paths, finding.position)?;
-    push_level(text, kind)?;
-    push_reported(text, paths, &finding.kind)?;
-    push_kind(text, kind)
-}
-
-/// Appends what stands before the words of a finding of this kind, as in `: error: no contact [no-contact]`.
-#[tactic(auto, unfolding(crate::specs::Report::level_text))]
-pub(crate) fn push_level(text: &mut Vec<u8>, kind: Kind) -> Result<(), AllocError>
-    ensures { OnOk result (text.new.items ≡ text.old.items ++ level_text kind) }
-{
+    push_place(&mut text, notice.place)?;
     text.extend_from_slice(b": ")?;
-    text.extend_from_slice(kind.level().name().as_bytes())?;
-    text.extend_from_slice(b": ")
-}
-
-/// Appends what stands after them.
-#[tactic(auto, unfolding(crate::specs::Report::kind_text))]
-pub(crate) fn push_kind(text: &mut Vec<u8>, kind: Kind) -> Result<(), AllocError>
-    ensures { OnOk result (text.new.items ≡ text.old.items ++ kind_text kind) }
-{
+    text.extend_from_slice(notice.kind.level().name().as_bytes())?;
+    text.extend_from_slice(b": ")?;
+    text.extend_from_slice(notice.message.as_slice())?;
     text.extend_from_slice(b" [")?;
-    text.extend_from_slice(kind.name().as_bytes())?;
+    text.extend_from_slice(notice.kind.name().as_bytes())?;
     text.push(b']')?;
-    Ok(())
+    shown_line(alloc, text)
 }
 
-/// Appends a finding that has no details, without its place.
-pub(crate) fn push_words(text: &mut Vec<u8>, kind: Kind, words: &[u8]) -> Result<(), AllocError>
-    ensures { OnOk result (text.new.items ≡ text.old.items ++ labelled kind words.now) }
+// Escapes a line, and ends it. Few lines need escapes, so others aren't copied.
+pub(crate) fn shown_line(alloc: Global, mut text: Vec<u8>) -> Result<Vec<u8>, AllocError>
+    ensures { IfOk result (λ line. line.items ≡ shown_line text.items) }
 {
-    push_level(text, kind)?;
-    text.extend_from_slice(words)?;
-    push_kind(text, kind)
+    if may_need_escapes(text.as_slice()) {
+        let mut line = Vec::new(alloc);
+        push_shown(&mut line, text.as_slice())?;
+        line.push(b'\n')?;
+        return Ok(line);
+    }
+    text.push(b'\n')?;
+    Ok(text)
 }
 
 /// Appends FILE:LINE, without escapes.
@@ -187,12 +191,18 @@ pub fn push_position(
     position: Position,
 ) -> Result<(), AllocError>
     ensures { OnOk result (text.new.items
-        ≡ text.old.items ++ position_text (map (λ path. path.items) paths.now) position.buffer position.line) }
+        ≡ text.old.items ++ position_text (texts paths.now) position.buffer position.line) }
+{
+    push_place(text, place_at(paths, position))
+}
+
+fn push_place(text: &mut Vec<u8>, place: Place<'_>) -> Result<(), AllocError>
+    ensures { OnOk result (text.new.items ≡ text.old.items ++ place_text (file_line_of place.entry)) }
 {
     let mut digits = Buffer::new();
-    text.extend_from_slice(name_of(paths, position.buffer))?;
+    text.extend_from_slice(place.file)?;
     text.push(b':')?;
-    text.extend_from_slice(digits.format(position.line).as_bytes())
+    text.extend_from_slice(digits.format(place.line).as_bytes())
 }
 
 /// Appends the positions of one or two lines.
@@ -202,7 +212,7 @@ pub(crate) fn push_positions(
     first: Position,
     second: Option<Position>,
 ) -> Result<(), AllocError>
-    ensures { OnOk result (text.new.items ≡ text.old.items ++ positions_text (map (λ path. path.items) paths.now)
+    ensures { OnOk result (text.new.items ≡ text.old.items ++ positions_text (texts paths.now)
         (first ∷ option_to_list second)) }
 {
     push_position(text, paths, first)?;
@@ -215,9 +225,18 @@ pub(crate) fn push_positions(
     }
 }
 
-// The name of a buffer in messages.
-pub(crate) fn name_of(paths: &[Vec<u8>], buffer: usize) -> &[u8]
-    ensures { result.now ≡ file_name (map (λ path. path.items) paths.now) buffer }
+// The place of a line, with the name of its buffer in messages.
+pub(crate) fn place_at(paths: &[Vec<u8>], position: Position) -> Place<'_>
+    ensures { file_line_of result ≡ place_at (texts paths.now) position.buffer position.line }
+{
+    Place {
+        file: name_of(paths, position.buffer),
+        line: position.line,
+    }
+}
+
+fn name_of(paths: &[Vec<u8>], buffer: usize) -> &[u8]
+    ensures { result.now ≡ file_name (texts paths.now) buffer }
 {
     if paths.is_empty() {
         return b"<stdin>";
@@ -228,59 +247,56 @@ pub(crate) fn name_of(paths: &[Vec<u8>], buffer: usize) -> &[u8]
     }
 }
 
-pub(crate) fn push_reported(
+/// Appends what a finding says, without its place, its level and its kind.
+pub(crate) fn push_message(
     text: &mut Vec<u8>,
     paths: &[Vec<u8>],
     kind: &FindingKind<'_>,
 ) -> Result<(), AllocError>
     ensures { OnOk result (text.new.items
-        ≡ text.old.items ++ reported_text (map (λ path. path.items) paths.now) (kind_of kind.now)) }
+        ≡ text.old.items ++ message_text (texts paths.now) (kind_of kind.now)) }
 {
     match kind {
         FindingKind::Fault(fault) => text.extend_from_slice(fault_name(fault).as_bytes()),
-        FindingKind::IgnoredText(ignored) => push_ignored(text, ignored),
+        FindingKind::IgnoredText(ignored) => {
+            text.extend_from_slice(b"ignored text: ")?;
+            push_shortened(text, ignored)?;
+            push_cure(text, ignored)
+        }
         FindingKind::GitReads(reading) => {
             text.extend_from_slice(b"git reads ")?;
             push_reading(text, reading)
         }
         FindingKind::NoEffect { beside, is_same } => {
-            push_no_effect(text, paths, *beside, *is_same)
+            text.extend_from_slice(b"no effect: ")?;
+            push_position(text, paths, *beside)?;
+            push_says(text, *is_same)
         }
         FindingKind::ItselfMapped {
             contact,
             to,
             first,
             second,
-        } => push_itself_mapped(text, paths, *contact, *to, *first, *second),
+        } => {
+            push_some_contact(text, *contact)?;
+            text.extend_from_slice(b" is itself mapped, to ")?;
+            push_some_contact(text, *to)?;
+            text.extend_from_slice(b" by ")?;
+            push_positions(text, paths, *first, *second)
+        }
     }
 }
 
-fn push_ignored(text: &mut Vec<u8>, ignored: &[u8]) -> Result<(), AllocError>
-    ensures { OnOk result (text.new.items
-        ≡ text.old.items ++ (codes "ignored text: " ++ spec.shortened ignored.now ++ cure_text ignored.now)) }
-{
-    text.extend_from_slice(b"ignored text: ")?;
-    push_shortened(text, ignored)?;
-    push_cure(text, ignored)
-}
-
+// Says what to do about a text that may be meant as a name, and not as an email or a comment.
+#[tactic(auto, unfolding(crate::specs::Report::cure_text))]
 fn push_cure(text: &mut Vec<u8>, ignored: &[u8]) -> Result<(), AllocError>
     ensures { OnOk result (text.new.items ≡ text.old.items ++ cure_text ignored.now) }
 {
-    if looks_like_name(ignored) {
-        return text.extend_from_slice(b" (an old name needs an email after it)");
+    match ignored {
+        [b'#', ..] => Ok(()),
+        _ if has_email_byte(ignored) => Ok(()),
+        _ => text.extend_from_slice(b" (an old name needs an email after it)"),
     }
-    Ok(())
-}
-
-// Whether a text may be meant as a name, and not as an email or a comment.
-fn looks_like_name(text: &[u8]) -> bool
-    ensures { result ≡ looks_like_name text.now }
-{
-    if let [b'#', ..] = text {
-        return false;
-    }
-    !has_email_byte(text)
 }
 
 fn has_email_byte(text: &[u8]) -> bool
@@ -290,20 +306,7 @@ fn has_email_byte(text: &[u8]) -> bool
         .any(|byte| *byte == b'<' || *byte == b'>' || *byte == b'@')
 }
 
-fn push_no_effect(
-    text: &mut Vec<u8>,
-    paths: &[Vec<u8>],
-    beside: Position,
-    is_same: bool,
-) -> Result<(), AllocError>
-    ensures { OnOk result (text.new.items ≡ text.old.items ++ (codes "no effect: "
-        ++ position_text (map (λ path. path.items) paths.now) beside.buffer beside.line ++ says_text is_same)) }
-{
-    text.extend_from_slice(b"no effect: ")?;
-    push_position(text, paths, beside)?;
-    push_says(text, is_same)
-}
-
+#[tactic(auto, unfolding(crate::specs::Report::says_text))]
 fn push_says(text: &mut Vec<u8>, is_same: bool) -> Result<(), AllocError>
     ensures { OnOk result (text.new.items ≡ text.old.items ++ says_text is_same) }
 {
@@ -311,45 +314,6 @@ fn push_says(text: &mut Vec<u8>, is_same: bool) -> Result<(), AllocError>
         return text.extend_from_slice(b" says the same");
     }
     text.extend_from_slice(b" says something else")
-}
-
-fn push_mapped(text: &mut Vec<u8>, contact: Contact<'_>, to: Contact<'_>) -> Result<(), AllocError>
-    ensures { OnOk result (text.new.items
-        ≡ text.old.items ++ mapping_text (contact_of contact.entry) (contact_of to.entry)) }
-{
-    push_some_contact(text, contact)?;
-    text.extend_from_slice(b" is itself mapped, to ")?;
-    push_some_contact(text, to)
-}
-
-fn push_itself_mapped(
-    text: &mut Vec<u8>,
-    paths: &[Vec<u8>],
-    contact: Contact<'_>,
-    to: Contact<'_>,
-    first: Position,
-    second: Option<Position>,
-) -> Result<(), AllocError>
-    ensures { OnOk result (text.new.items ≡ text.old.items
-        ++ (mapping_text (contact_of contact.entry) (contact_of to.entry)
-        ++ by_text (map (λ path. path.items) paths.now) first second)) }
-{
-    push_mapped(text, contact, to)?;
-    push_by(text, paths, first, second)
-}
-
-#[tactic(auto, unfolding(crate::specs::Report::by_text))]
-fn push_by(
-    text: &mut Vec<u8>,
-    paths: &[Vec<u8>],
-    first: Position,
-    second: Option<Position>,
-) -> Result<(), AllocError>
-    ensures { OnOk result (text.new.items
-        ≡ text.old.items ++ by_text (map (λ path. path.items) paths.now) first second) }
-{
-    text.extend_from_slice(b" by ")?;
-    push_positions(text, paths, first, second)
 }
 
 fn push_some_contact(text: &mut Vec<u8>, contact: Contact<'_>) -> Result<(), AllocError>
@@ -368,4 +332,104 @@ fn fault_name(fault: &Error<'_>) -> &'static str
         Error::NothingToMap { .. } => "an email alone maps nothing",
         Error::UnclosedSecond { .. } => "the second '<' has no '>'",
     }
+}
+
+/// A piece of output, and whether it is a finding that counts.
+#[derive(Drop)]
+pub(crate) struct Piece {
+    pub text: Vec<u8>,
+    pub counts: bool,
+}
+
+/// Pieces that are made one after another.
+pub(crate) trait Pieces {
+    // the pieces that are left
+    ghost left: { Self → List ThePiece };
+
+    /// The next piece, `None` after the last.
+    fn next_piece(&mut self, alloc: Global) -> Result<Option<Piece>, AllocError>
+        ensures { IfOk result (λ next. YieldsFirstBy piece_of left self.old next self.new) };
+}
+
+/// Prints all pieces, and returns whether one counts. On an error, a prefix of their text was written.
+///
+/// Each piece is made just before it is printed, so apart from the printer's buffer only one is in memory.
+pub(crate) fn print_pieces<S: Pieces + Drop, W: Write>(
+    alloc: Global,
+    mut pieces: S,
+    output: &mut W,
+) -> Result<Outcome, TaskFailure>
+    ensures ok { IfOk result (λ outcome. (outcome ≡ outcome_of (S.left pieces))
+        × Appends (W.contents output.old) (W.contents output.new) (text_of (S.left pieces))) }
+    ensures err { OnErr result ((count : ℕ) × Appends (W.contents output.old) (W.contents output.new)
+        (take count (text_of (S.left pieces)))) }
+    ensures only { IfErr result EndsPrinting }
+{
+    let mut printer = Printer::new(alloc)?;
+    let mut outcome = Outcome::Clean;
+    while let Some(piece) = pieces.next_piece(alloc)? {
+        outcome = outcome_with(outcome, piece.counts);
+        printer.print(output, piece.text.as_slice())?;
+    }
+    printer.flush(output)?;
+    Ok(outcome)
+}
+
+fn outcome_with(outcome: Outcome, counts: bool) -> Outcome
+    ensures { result ≡ (if counts then TheFound else outcome) }
+{
+    if counts {
+        return Outcome::Found;
+    }
+    outcome
+}
+
+/// Appends what git reads, as in `it as Joe < a@x >`.
+pub(crate) fn push_reading(text: &mut Vec<u8>, reading: &GitReading<'_>) -> Result<(), AllocError>
+    ensures { OnOk result (text.new.items ≡ text.old.items ++ git_text (git_reading_of reading.now)) }
+{
+    match reading {
+        GitReading::Nothing => text.extend_from_slice(b"nothing here"),
+        GitReading::Entry(entry) => {
+            text.extend_from_slice(b"it as ")?;
+            push_entry(text, entry)
+        }
+        GitReading::Lines(count) => {
+            let mut digits = Buffer::new();
+            text.extend_from_slice(b"it as ")?;
+            text.extend_from_slice(digits.format(*count).as_bytes())?;
+            text.extend_from_slice(b" lines")
+        }
+    }
+}
+
+// Appends an entry as a mailmap line, with its texts shortened.
+fn push_entry(text: &mut Vec<u8>, entry: &Entry<'_>) -> Result<(), AllocError>
+    ensures { OnOk result (text.new.items ≡ text.old.items ++ entry_text (mapping_of entry.now)) }
+{
+    push_short_name(text, entry.new_name())?;
+    if let Some(email) = entry.new_email() {
+        push_short_email(text, email)?;
+        text.push(b' ')?;
+    }
+    push_short_name(text, entry.old_name())?;
+    push_short_email(text, entry.old_email())
+}
+
+fn push_short_name(text: &mut Vec<u8>, name: Option<&[u8]>) -> Result<(), AllocError>
+    ensures { OnOk result (text.new.items
+        ≡ text.old.items ++ name_part (option_map shortened (option_copied name.entry))) }
+{
+    let Some(name) = name else {
+        return Ok(());
+    };
+    let name = shortened(*text.allocator(), name)?;
+    push_name(text, Some(name.as_slice()))
+}
+
+fn push_short_email(text: &mut Vec<u8>, email: &[u8]) -> Result<(), AllocError>
+    ensures { OnOk result (text.new.items ≡ text.old.items ++ bracketed_email (shortened email.now)) }
+{
+    let email = shortened(*text.allocator(), email)?;
+    push_email(text, &email)
 }

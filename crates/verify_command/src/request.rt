@@ -1,15 +1,15 @@
 //! Parses the arguments of `mailmap_verify`.
-ghost use Rattle.std.specs.Prelude.{◌≡◌, ◌++◌, [], Err, IfOk, MatchOption, Ok, drop, false, length, true};
-ghost use Rattle.std.specs.List.{list_any, position};
+ghost use Rattle.std.specs.Prelude.{◌≡◌, [], Err, Ok, drop, false, length, true};
+ghost use Rattle.std.specs.Option.{option_copied};
 ghost use Rattle.std.specs.Vec.Iter.{into_iter_items, into_iter_len};
 ghost use Rattle.command_line.specs.Files.{texts};
-ghost use Rattle.verify_command.specs.Arguments.{IsAsked, asked, checked, finished, format_named, is_equals, kind_named, level_named, name_in, value_in};
-ghost use Rattle.verify_command.specs.Arguments.{can_be_mailmap, has_no_mode, is_standard_input, names_input, plain};
+ghost use Rattle.verify_command.specs.Arguments.{IsAsked, asked, can_be_mailmap, checked, contacts_name, equals_in};
+ghost use Rattle.verify_command.specs.Arguments.{finished, format_named, is_only_dash, level_named, name_in, plain, reads_mailmap};
 ghost use Rattle.verify_command.specs.Arguments.{reports, setting_lettered, setting_named, setting_word, unused_setting};
-ghost use Rattle.verify_command.specs.Arguments.{wanted_of, with_excluded, with_format, with_mode, with_severity, with_paths, with_setting};
-ghost use Rattle.verify_command.specs.Arguments.{without_value, word_of, wrong_of};
+ghost use Rattle.verify_command.specs.Arguments.{value_in, wanted_of, with_excluded, with_mode, with_paths, with_setting};
+ghost use Rattle.verify_command.specs.Arguments.{without_value, word_of};
 
-use crate::asked::{Format, Misuse, Mode, ParseError, Request, Setting, Settings};
+use crate::asked::{Format, Mode, ParseError, Request, Setting, Settings};
 use crate::kinds::{Kind, Level};
 use bstr::ByteSlice;
 use std::alloc::Global;
@@ -20,12 +20,10 @@ use std::vec::IntoIter;
 pub(crate) enum Word {
     /// `--`, which ends the options.
     End,
-    /// `-h` or `--help`.
-    Help,
-    /// `--version`.
-    Version,
     /// The option for a mode without a value, such as `--prune`.
     Mode(Mode),
+    /// `-h`, `--help` or `--version`, which ends the arguments.
+    Alone(Mode),
     /// An option whose value is the next argument.
     Next(Setting),
     /// An option with its value, as in `--format=json`.
@@ -66,14 +64,14 @@ fn read_words(alloc: Global, mut words: IntoIter<Vec<u8>, Global>) -> Result<Req
                 request = request.with_setting(setting, argument, value)?;
             }
             Word::Joined(setting) => {
-                let value = Vec::from_slice(alloc, value_in(argument.as_slice()))?;
+                let (_, value) = parts(argument.as_slice());
+                let value = Vec::from_slice(alloc, value.unwrap_or(&[]))?;
                 request = request.with_setting(setting, argument, value)?;
             }
             Word::Path => request.paths.push(argument)?,
             Word::End => return request.with_paths(words),
-            Word::Help => return Ok(Request::new(alloc, Mode::Help)),
-            Word::Version => return Ok(Request::new(alloc, Mode::Version)),
-            Word::Unknown => return Err(ParseError::Misuse(Misuse::UnknownOption(argument))),
+            Word::Alone(mode) => return Ok(Request::new(alloc, mode)),
+            Word::Unknown => return Err(ParseError::UnknownOption(argument)),
         }
     }
     Ok(request.finished())
@@ -100,7 +98,7 @@ impl Request {
         ensures { IsAsked result (with_mode (wanted_of self) mode contacts.items option.items) }
     {
         if self.mode != Mode::Verify {
-            return Err(ParseError::Misuse(Misuse::SecondMode(option)));
+            return Err(ParseError::SecondMode(option));
         }
         self.mode = mode;
         self.contacts = contacts;
@@ -118,9 +116,21 @@ impl Request {
         match setting {
             Setting::Contacts => self.with_mode(Mode::Contacts, value, option),
             Setting::Suggest => self.with_mode(Mode::Suggest, value, option),
-            Setting::Severity => self.with_severity(value),
+            Setting::Severity => {
+                let Some(level) = level_named(value.as_slice()) else {
+                    return Err(ParseError::UnknownValue(setting, value));
+                };
+                self.settings.severity = Some(level);
+                self.checked()
+            }
             Setting::Exclude => self.with_excluded(value),
-            Setting::Format => self.with_format(value),
+            Setting::Format => {
+                let Some(format) = format_named(value.as_slice()) else {
+                    return Err(ParseError::UnknownValue(setting, value));
+                };
+                self.settings.format = Some(format);
+                self.checked()
+            }
             Setting::StdinName => {
                 self.settings.stdin_name = Some(value);
                 self.checked()
@@ -133,42 +143,18 @@ impl Request {
     {
         let names_mode = setting == Setting::Contacts || setting == Setting::Suggest;
         if names_mode && self.mode != Mode::Verify {
-            return ParseError::Misuse(Misuse::SecondMode(option));
+            return ParseError::SecondMode(option);
         }
-        ParseError::Misuse(Misuse::NoValue(setting, option))
-    }
-
-    fn with_severity(mut self, value: Vec<u8>) -> Result<Request, ParseError>
-        ensures { IsAsked result (with_severity (wanted_of self) value.items) }
-    {
-        match level_named(value.as_slice()) {
-            Some(level) => {
-                self.settings.severity = Some(level);
-                self.checked()
-            }
-            None => Err(ParseError::Misuse(Misuse::UnknownValue(Setting::Severity, value))),
-        }
-    }
-
-    fn with_format(mut self, value: Vec<u8>) -> Result<Request, ParseError>
-        ensures { IsAsked result (with_format (wanted_of self) value.items) }
-    {
-        match format_named(value.as_slice()) {
-            Some(format) => {
-                self.settings.format = Some(format);
-                self.checked()
-            }
-            None => Err(ParseError::Misuse(Misuse::UnknownValue(Setting::Format, value))),
-        }
+        ParseError::NoValue(setting, option)
     }
 
     fn with_excluded(mut self, value: Vec<u8>) -> Result<Request, ParseError>
         ensures { IsAsked result (with_excluded (wanted_of self) value.items) }
     {
         for name in value.as_slice().split_str(b",") {
-            let Some(kind) = kind_named(name) else {
+            let Some(kind) = Kind::of_name(name) else {
                 let name = Vec::from_slice(*value.allocator(), name)?;
-                return Err(ParseError::Misuse(Misuse::UnknownValue(Setting::Exclude, name)));
+                return Err(ParseError::UnknownValue(Setting::Exclude, name));
             };
             self.settings.excluded.push(kind)?;
         }
@@ -189,22 +175,29 @@ impl Request {
     fn finished(mut self) -> Request
         ensures { wanted_of result ≡ finished (wanted_of self) }
     {
-        if self.is_standard_input() {
+        if can_be_mailmap(self.mode, self.contacts.as_slice())
+            && is_only_dash(self.paths.as_slice())
+        {
             self.paths.clear();
         }
         self
     }
 
-    fn is_standard_input(&self) -> bool
-        ensures { result ≡ is_standard_input (wanted_of self.now) }
+    /// Whether standard input is the mailmap.
+    pub(crate) fn reads_mailmap(&self) -> bool
+        ensures { result ≡ reads_mailmap (wanted_of self.now) }
     {
-        if !can_be_mailmap(self.mode, self.contacts.as_slice()) {
-            return false;
+        can_be_mailmap(self.mode, self.contacts.as_slice()) && self.paths.is_empty()
+    }
+
+    /// The name of the file of contacts in messages.
+    pub(crate) fn contacts_name(&self) -> &[u8]
+        ensures { result.now ≡ contacts_name (wanted_of self.now) }
+    {
+        if self.contacts.as_slice() == b"-".as_slice() {
+            return self.settings.input_name();
         }
-        match self.paths.as_slice() {
-            [path] => path.as_slice() == b"-".as_slice(),
-            _ => false,
-        }
+        self.contacts.as_slice()
     }
 
     // Whether the mode uses all the settings.
@@ -212,7 +205,7 @@ impl Request {
         ensures { IsAsked result (checked (wanted_of self)) }
     {
         match self.unused_setting() {
-            Some(setting) => Err(ParseError::Misuse(Misuse::Unused(self.mode, setting))),
+            Some(setting) => Err(ParseError::Unused(self.mode, setting)),
             None => Ok(self),
         }
     }
@@ -221,19 +214,15 @@ impl Request {
         ensures { result ≡ unused_setting (wanted_of self.now) }
     {
         let settings = &self.settings;
-        if settings.severity.is_some() && !reports(self.mode) {
-            return Some(Setting::Severity);
+        let reports = reports(self.mode);
+        let names_input = reports || self.mode == Mode::Prune;
+        match settings {
+            _ if settings.severity.is_some() && !reports => Some(Setting::Severity),
+            _ if !settings.excluded.is_empty() && !reports => Some(Setting::Exclude),
+            _ if settings.format.is_some() && !reports => Some(Setting::Format),
+            _ if settings.stdin_name.is_some() && !names_input => Some(Setting::StdinName),
+            _ => None,
         }
-        if !settings.excluded.is_empty() && !reports(self.mode) {
-            return Some(Setting::Exclude);
-        }
-        if settings.format.is_some() && !reports(self.mode) {
-            return Some(Setting::Format);
-        }
-        if settings.stdin_name.is_some() && !names_input(self.mode) {
-            return Some(Setting::StdinName);
-        }
-        None
     }
 }
 
@@ -244,43 +233,38 @@ fn reports(mode: Mode) -> bool
     mode == Mode::Verify || mode == Mode::Contacts
 }
 
-// Whether messages of the mode can name a line of standard input.
-fn names_input(mode: Mode) -> bool
-    ensures { result ≡ names_input mode }
-{
-    reports(mode) || mode == Mode::Prune
-}
-
 // Whether standard input can be the mailmap: it hasn't contacts, and lines aren't suggested.
 fn can_be_mailmap(mode: Mode, contacts: &[u8]) -> bool
     ensures { result ≡ can_be_mailmap mode contacts.now }
 {
     match mode {
-        Mode::Explain | Mode::Suggest => false,
+        Mode::Verify | Mode::Prune => true,
         Mode::Contacts => contacts != b"-".as_slice(),
-        Mode::Help | Mode::Version | Mode::Verify | Mode::Prune => true,
+        Mode::Help | Mode::Version | Mode::Explain | Mode::Suggest => false,
+    }
+}
+
+fn is_only_dash(paths: &[Vec<u8>]) -> bool
+    ensures { result ≡ is_only_dash (texts paths.now) }
+{
+    match paths {
+        [path] => path.as_slice() == b"-".as_slice(),
+        _ => false,
     }
 }
 
 fn word_of(argument: &[u8]) -> Word
     ensures { result ≡ word_of argument.now }
 {
-    if argument == b"--".as_slice() {
-        return Word::End;
+    match argument {
+        _ if argument == b"--".as_slice() => Word::End,
+        _ if argument == b"-h".as_slice() => Word::Alone(Mode::Help),
+        _ if argument == b"--help".as_slice() => Word::Alone(Mode::Help),
+        _ if argument == b"--version".as_slice() => Word::Alone(Mode::Version),
+        _ if argument == b"--prune".as_slice() => Word::Mode(Mode::Prune),
+        _ if argument == b"--explain".as_slice() => Word::Mode(Mode::Explain),
+        _ => setting_word(argument),
     }
-    if argument == b"-h".as_slice() || argument == b"--help".as_slice() {
-        return Word::Help;
-    }
-    if argument == b"--version".as_slice() {
-        return Word::Version;
-    }
-    if argument == b"--prune".as_slice() {
-        return Word::Mode(Mode::Prune);
-    }
-    if argument == b"--explain".as_slice() {
-        return Word::Mode(Mode::Explain);
-    }
-    setting_word(argument)
 }
 
 // An option with a value, or an unknown one, or a path.
@@ -290,11 +274,12 @@ fn setting_word(argument: &[u8]) -> Word
     if let Some(setting) = setting_lettered(argument) {
         return Word::Next(setting);
     }
-    if let Some(setting) = setting_named(name_in(argument)) {
-        if has_equals(argument) {
-            return Word::Joined(setting);
-        }
-        return Word::Next(setting);
+    let (name, value) = parts(argument);
+    if let Some(setting) = setting_named(name) {
+        return match value {
+            Some(_) => Word::Joined(setting),
+            None => Word::Next(setting),
+        };
     }
     match argument {
         [b'-', _, ..] => Word::Unknown,
@@ -302,107 +287,66 @@ fn setting_word(argument: &[u8]) -> Word
     }
 }
 
-// The name in `NAME=VALUE`, or all of an argument without `=`.
-fn name_in(argument: &[u8]) -> &[u8]
-    ensures { result.now ≡ name_in argument.now }
+// The name and the value in `NAME=VALUE`; all of an argument without `=` is the name.
+fn parts(argument: &[u8]) -> (&[u8], Option<&[u8]>)
+    ensures name { result.0.now ≡ name_in argument.now }
+    ensures value { option_copied result.1 ≡ value_in argument.now }
 {
     match equals_in(argument) {
-        Some(at) => &argument[..at],
-        None => argument,
-    }
-}
-
-// The value in `NAME=VALUE`.
-fn value_in(argument: &[u8]) -> &[u8]
-    ensures { result.now ≡ value_in argument.now }
-{
-    match equals_in(argument) {
-        Some(at) => &argument[at + 1..],
-        None => &[],
+        Some(at) => (&argument[..at], Some(&argument[at + 1..])),
+        None => (argument, None),
     }
 }
 
 // The index of the first `=`.
 fn equals_in(argument: &[u8]) -> Option<usize>
-    ensures { result ≡ position is_equals argument.now }
+    ensures { result ≡ equals_in argument.now }
 {
     argument.iter().position(|byte| *byte == b'=')
-}
-
-fn has_equals(argument: &[u8]) -> bool
-    ensures { result ≡ list_any is_equals argument.now }
-{
-    argument.iter().any(|byte| *byte == b'=')
 }
 
 fn setting_lettered(name: &[u8]) -> Option<Setting>
     ensures { result ≡ setting_lettered name.now }
 {
-    if name == b"-S".as_slice() {
-        return Some(Setting::Severity);
+    match name {
+        _ if name == b"-S".as_slice() => Some(Setting::Severity),
+        _ if name == b"-e".as_slice() => Some(Setting::Exclude),
+        _ if name == b"-f".as_slice() => Some(Setting::Format),
+        _ => None,
     }
-    if name == b"-e".as_slice() {
-        return Some(Setting::Exclude);
-    }
-    if name == b"-f".as_slice() {
-        return Some(Setting::Format);
-    }
-    None
 }
 
 fn setting_named(name: &[u8]) -> Option<Setting>
     ensures { result ≡ setting_named name.now }
 {
-    if name == b"--contacts".as_slice() {
-        return Some(Setting::Contacts);
+    match name {
+        _ if name == b"--contacts".as_slice() => Some(Setting::Contacts),
+        _ if name == b"--suggest".as_slice() => Some(Setting::Suggest),
+        _ if name == b"--severity".as_slice() => Some(Setting::Severity),
+        _ if name == b"--exclude".as_slice() => Some(Setting::Exclude),
+        _ if name == b"--format".as_slice() => Some(Setting::Format),
+        _ if name == b"--stdin-name".as_slice() => Some(Setting::StdinName),
+        _ => None,
     }
-    if name == b"--suggest".as_slice() {
-        return Some(Setting::Suggest);
-    }
-    if name == b"--severity".as_slice() {
-        return Some(Setting::Severity);
-    }
-    if name == b"--exclude".as_slice() {
-        return Some(Setting::Exclude);
-    }
-    if name == b"--format".as_slice() {
-        return Some(Setting::Format);
-    }
-    if name == b"--stdin-name".as_slice() {
-        return Some(Setting::StdinName);
-    }
-    None
 }
 
 fn level_named(name: &[u8]) -> Option<Level>
     ensures { result ≡ level_named name.now }
 {
-    if name == b"error".as_slice() {
-        return Some(Level::Error);
+    match name {
+        _ if name == b"error".as_slice() => Some(Level::Error),
+        _ if name == b"warning".as_slice() => Some(Level::Warning),
+        _ if name == b"note".as_slice() => Some(Level::Note),
+        _ => None,
     }
-    if name == b"warning".as_slice() {
-        return Some(Level::Warning);
-    }
-    if name == b"note".as_slice() {
-        return Some(Level::Note);
-    }
-    None
-}
-
-fn kind_named(name: &[u8]) -> Option<Kind>
-    ensures { result ≡ kind_named name.now }
-{
-    Kind::of_name(name)
 }
 
 fn format_named(name: &[u8]) -> Option<Format>
     ensures { result ≡ format_named name.now }
 {
-    if name == b"gcc".as_slice() {
-        return Some(Format::Gcc);
+    match name {
+        _ if name == b"gcc".as_slice() => Some(Format::Gcc),
+        _ if name == b"json".as_slice() => Some(Format::Json),
+        _ => None,
     }
-    if name == b"json".as_slice() {
-        return Some(Format::Json);
-    }
-    None
 }

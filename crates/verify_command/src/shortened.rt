@@ -1,7 +1,7 @@
 //! Cuts long texts in findings.
 ghost use Rattle.std.specs.Prelude.{◌≡◌, ◌++◌, ◌≤◌, IfOk, OnOk, length};
 ghost use Rattle.std.specs.Cow.{cow_slice_items};
-ghost use Rattle.verify_command.specs.Shortened.{crosses, front_len, short_contact, shortened};
+ghost use Rattle.verify_command.specs.Report.{crosses, front_len, short_contact, shortened};
 
 use bstr::decode_utf8;
 use mailmap_snapshot::check::push_contact;

@@ -1,24 +1,29 @@
 //! Runs what the arguments of `mailmap_verify` ask for.
-ghost use Rattle.std.specs.Prelude.{◌≡◌, ◌≢◌, ◌<◌, [], IfErr, IsErrOf, OnOk, false, length};
+ghost use Rattle.std.specs.Prelude.{◌≡◌, ◌<◌, ◌∷◌, [], IfErr, IfOk, IsErrOf, OnOk, false, length, true};
 ghost use Rattle.std.specs.Io.KnownBytes.{IsAtEnd};
 ghost use Rattle.command_line.specs.Files.{texts};
-ghost use Rattle.verify_command.specs.Settings.{choices_of};
-ghost use Rattle.verify_command.specs.Task.{FailsFor, IsOfMailmap, Leaves, ReadsInput, reads_contacts};
+ghost use Rattle.command_line.specs.declared.outcome.Outcome.TheVariants as ended;
+ghost use Rattle.verify_command.specs.Report.{IsReportBeside};
+ghost use Rattle.verify_command.specs.Task.{AreMailmaps, AreSuggested, EndsPrinting, FailsFor, IsOfMailmap, IsPrunedBy};
+ghost use Rattle.verify_command.specs.Task.{IsKnown, IsReport, Leaves, LeavesExplained, ReadsInput, WithContacts};
+ghost use Rattle.verify_command.specs.Task.{reads_contacts, reads_mailmap, version_line, wanted_of};
 
-use crate::answer::{output_of, print_report, read_mailmaps};
-pub use crate::asked::{Format, Misuse, Mode, ParseError, Request, Setting, Settings, Task, USAGE};
-use crate::contacts::verify_contacts;
-use crate::explain::explain;
+pub use crate::asked::{Format, Mode, ParseError, Request, Setting, Settings, USAGE};
+use crate::contacts::with_contacts;
+use crate::explanation::explain;
 use crate::failure::TaskFailure;
+use crate::report::verify;
 pub use crate::request::request_of;
-use crate::suggestions::suggest_lines;
-use command_line::files::FileSystem;
+use command_line::VERSION;
+use command_line::failure::Failure;
+use command_line::files::{FileSystem, read_files};
 use command_line::outcome::Outcome;
-use command_line::streams::write_all;
-use std::alloc::Global;
+use command_line::streams::{read_input, write_all};
+use mailmap_findings::verify::{first_read_otherwise, prune};
+use std::alloc::{AllocError, Global};
 use std::io::{Read, Write};
 
-/// Runs a task, and returns the outcome, which makes the exit status.
+/// Does what is asked for, and returns the outcome, which makes the exit status.
 ///
 /// All input is read before anything is written, except with `Mode::Explain`, which answers contacts as they come. The
 /// first failure ends the run. Findings and suggestions are written as they are formatted, so memory can run out after a
@@ -27,65 +32,127 @@ use std::io::{Read, Write};
 pub fn perform<F: FileSystem, R: Read, W: Write>(
     system: &F,
     alloc: Global,
-    task: Task<'_>,
+    request: &Request,
     input: &mut R,
     output: &mut W,
 ) -> Result<Outcome, TaskFailure>
-    // Exactly the output of the mode is written; after a failure, a prefix of it or nothing.
-    ensures leaves { Leaves (F.at system.now) (R.remaining input.old)
-        (R.remaining input.new) (choices_of task.entry.settings.now)
-        task.entry.mode task.entry.contacts.now (texts task.entry.paths.now)
+    // Exactly the text of the mode is written; after a failure, a prefix of it or nothing.
+    ensures usage { request.now.mode ≡ Mode.Help → Leaves false (IsKnown USAGE.now)
+        W.contents output.old output.new result }
+    ensures version { request.now.mode ≡ Mode.Version → Leaves false (IsKnown version_line)
+        W.contents output.old output.new result }
+    ensures report { request.now.mode ≡ Mode.Verify → Leaves true (IsReport (F.at system.now) (R.remaining input.old)
+        (wanted_of request.now)) W.contents output.old output.new result }
+    ensures pruned { request.now.mode ≡ Mode.Prune → Leaves false (IsPrunedBy (F.at system.now) (R.remaining input.old)
+        (wanted_of request.now)) W.contents output.old output.new result }
+    ensures with_contacts { request.now.mode ≡ Mode.Contacts → Leaves true
+        (WithContacts (IsReportBeside (wanted_of request.now)) (F.at system.now) (R.remaining input.old)
+        (wanted_of request.now)) W.contents output.old output.new result }
+    ensures suggested { request.now.mode ≡ Mode.Suggest → Leaves true (WithContacts AreSuggested
+        (F.at system.now) (R.remaining input.old) (wanted_of request.now)) W.contents output.old output.new result }
+    ensures explained { request.now.mode ≡ Mode.Explain → LeavesExplained (F.at system.now)
+        (texts request.now.paths.items) (R.remaining input.old) (R.remaining input.new)
         W.contents output.old output.new result }
 
     // Standard input is read to its end if it has the contacts or the mailmap, and else not at all. It isn't read
     // either if a mailmap can't be.
-    ensures reads_all { ReadsInput task.entry.mode task.entry.contacts.now
-        (texts task.entry.paths.now) → OnOk result (IsAtEnd (R.remaining input.new)) }
+    ensures reads_all { ReadsInput (wanted_of request.now) → OnOk result (IsAtEnd (R.remaining input.new)) }
+    ensures unread { reads_contacts request.now.mode request.now.contacts.items ≡ false
+        → reads_mailmap (wanted_of request.now) ≡ false → input.new ≡ input.old }
     ensures unread_at_files { IfErr result (λ e. IsOfMailmap e → input.new ≡ input.old) }
-    ensures unread { reads_contacts task.entry.mode task.entry.contacts.now ≡ false → task.entry.paths.now ≢ []
-        → input.new ≡ input.old }
-    ensures unread_to_suggest { task.entry.mode ≡ Mode.Suggest
-        → reads_contacts Mode.Suggest task.entry.contacts.now ≡ false → input.new ≡ input.old }
-    ensures unread_for_help { task.entry.mode ≡ Mode.Help → input.new ≡ input.old }
-    ensures unread_for_version { task.entry.mode ≡ Mode.Version → input.new ≡ input.old }
 
-    // Which tasks can fail in which way. Only one mailmap can be pruned, which is checked before anything is read.
-    ensures fails { IfErr result (FailsFor (F.at system.now) (R.remaining input.old)
-        task.entry.mode task.entry.contacts.now (texts task.entry.paths.now)) }
-    ensures too_many { task.entry.mode ≡ Mode.Prune → 1 < length task.entry.paths.now
+    // Which requests can fail in which way. Only one mailmap can be pruned, which is checked before anything is read.
+    ensures fails { IfErr result (FailsFor (F.at system.now) (R.remaining input.old) (wanted_of request.now)) }
+    ensures too_many { request.now.mode ≡ Mode.Prune → 1 < length request.now.paths.items
         → IsErrOf result TaskFailure.TooManyFiles }
 {
-    if task.mode == Mode::Explain {
-        explain(system, alloc, task.paths, input, output)?;
-        return Ok(Outcome::Clean);
+    match request.mode {
+        Mode::Help => print_text(output, USAGE.as_bytes()),
+        Mode::Version => {
+            let line = version_line(alloc)?;
+            print_text(output, line.as_slice())
+        }
+        Mode::Verify => verify(system, alloc, request, input, output),
+        Mode::Prune => {
+            let text = pruned(system, alloc, request, input)?;
+            print_text(output, text.as_slice())
+        }
+        Mode::Explain => explain(system, alloc, request, input, output),
+        Mode::Contacts | Mode::Suggest => with_contacts(system, alloc, request, input, output),
     }
-    if task.mode == Mode::Verify {
-        let mailmaps = read_mailmaps(system, alloc, task.paths, input)?;
-        let outcome = print_report(
-            alloc,
-            task.settings,
-            task.paths,
-            mailmaps.as_slice(),
-            output,
-        )?;
-        return Ok(outcome);
-    }
-    if task.mode == Mode::Contacts {
-        return verify_contacts(
-            system,
-            alloc,
-            task.settings,
-            task.contacts,
-            task.paths,
-            input,
-            output,
-        );
-    }
-    if task.mode == Mode::Suggest {
-        suggest_lines(system, alloc, task.contacts, task.paths, input, output)?;
-        return Ok(Outcome::Clean);
-    }
-    let answer = output_of(system, alloc, task, input)?;
-    write_all(output, answer.as_slice())?;
+}
+
+/// Writes a text in which nothing is found.
+pub(crate) fn print_text<W: Write>(output: &mut W, text: &[u8]) -> Result<Outcome, TaskFailure>
+    ensures leaves { Leaves false (IsKnown text.now) W.contents output.old output.new result }
+    ensures only { IfErr result EndsPrinting }
+{
+    write_all(output, text)?;
     Ok(Outcome::Clean)
+}
+
+pub(crate) fn version_line(alloc: Global) -> Result<Vec<u8>, AllocError>
+    ensures { IfOk result (λ line. line.items ≡ version_line) }
+{
+    let mut line = Vec::from_slice(alloc, b"mailmap_verify ")?;
+    line.extend_from_slice(VERSION.as_bytes())?;
+    line.push(b'\n')?;
+    Ok(line)
+}
+
+/// The one mailmap without its lines that have no effect. A mailmap is pruned only if git reads each of its lines as the
+/// library does.
+pub(crate) fn pruned<F: FileSystem, R: Read>(
+    system: &F,
+    alloc: Global,
+    request: &Request,
+    input: &mut R,
+) -> Result<Vec<u8>, TaskFailure>
+    requires { request.now.mode ≡ Mode.Prune }
+    ensures ok { IfOk result (λ text. IsPrunedBy (F.at system.now) (R.remaining input.old) (wanted_of request.now)
+        ended.Clean text.items) }
+    ensures reads_all { reads_mailmap (wanted_of request.now) ≡ true → OnOk result (IsAtEnd (R.remaining input.new)) }
+    ensures unread { reads_mailmap (wanted_of request.now) ≡ false → input.new ≡ input.old }
+    ensures unread_at_files { IfErr result (λ e. IsOfMailmap e → input.new ≡ input.old) }
+    ensures fails { IfErr result (FailsFor (F.at system.now) (R.remaining input.old) (wanted_of request.now)) }
+    ensures too_many { 1 < length request.now.paths.items → IsErrOf result TaskFailure.TooManyFiles }
+    ensures no_output { ¬ IsErrOf result (TaskFailure.Run Failure.Output) }
+{
+    if 1 < request.paths.len() {
+        return Err(TaskFailure::TooManyFiles);
+    }
+    let mailmaps = read_mailmaps(system, alloc, request, input)?;
+    let [mailmap] = mailmaps.as_slice() else {
+        // Not reached: it is the input, or the file at the only path.
+        return Err(TaskFailure::Run(Failure::Memory));
+    };
+    if let Some(position) = first_read_otherwise(&[mailmap.as_slice()]) {
+        return Err(TaskFailure::ReadOtherwise { position });
+    }
+    Ok(prune(alloc, mailmap.as_slice())?)
+}
+
+/// Reads the mailmaps of a request. Stops at the first failure.
+pub(crate) fn read_mailmaps<F: FileSystem, R: Read>(
+    system: &F,
+    alloc: Global,
+    request: &Request,
+    input: &mut R,
+) -> Result<Vec<Vec<u8>>, TaskFailure>
+    ensures ok { IfOk result (λ mailmaps. AreMailmaps (F.at system.now) (R.remaining input.old) (wanted_of request.now)
+        (texts mailmaps.items)) }
+    ensures reads_all { reads_mailmap (wanted_of request.now) ≡ true → OnOk result (IsAtEnd (R.remaining input.new)) }
+    ensures unread { reads_mailmap (wanted_of request.now) ≡ false → input.new ≡ input.old }
+    ensures unread_at_files { IfErr result (λ e. IsOfMailmap e → input.new ≡ input.old) }
+    ensures fails { IfErr result (FailsFor (F.at system.now) (R.remaining input.old) (wanted_of request.now)) }
+    ensures no_output { ¬ IsErrOf result (TaskFailure.Run Failure.Output) }
+{
+    if !request.reads_mailmap() {
+        return Ok(read_files(system, alloc, request.paths.as_slice())?);
+    }
+    let mut mailmaps = Vec::new(alloc);
+    if mailmaps.push(read_input(alloc, input)?).is_err() {
+        return Err(TaskFailure::Run(Failure::Memory));
+    }
+    Ok(mailmaps)
 }

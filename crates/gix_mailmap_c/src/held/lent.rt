@@ -1,15 +1,14 @@
-//! Borrows the snapshot of an open handle in place.
+//! Borrows the content of an open handle in place.
 ghost use Rattle.std.specs.Prelude.{◌≡◌, true};
 ghost use Rattle.std.specs.Borrow.{sem};
-ghost use Rattle.gix_mailmap_c.specs.Borrowing.{LendsSnapshot};
+ghost use Rattle.gix_mailmap_c.specs.Borrowing.{LendsContent};
 
-use crate::held::Mailmap;
-use mailmap_snapshot::Snapshot;
+use crate::held::{Content, Handle};
 
-pub(crate) fn snapshot(m: &mut Mailmap) -> &mut Snapshot
-    requires { m.old.is_open ≡ true }
-    ensures* writes_back { sem 𝓛 (LendsSnapshot m.entry result) }
-    ensures value { result.now ≡ m.old.entries }
+pub(crate) fn content(h: &mut Handle) -> &mut Content
+    requires { h.old.is_open ≡ true }
+    ensures* writes_back { sem 𝓛 (LendsContent h.entry result) }
+    ensures value { result.now ≡ h.old.content }
 {
-    unsafe { &mut *(m.at as *mut Snapshot) }
+    unsafe { &mut *(h.at as *mut Content) }
 }

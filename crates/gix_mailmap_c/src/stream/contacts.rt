@@ -51,7 +51,8 @@ impl ContactQueue {
         ensures ok { IfOk result (λ taken. HasTakenOf part.now taken self.old self.new) }
         ensures err { OnErr result (self.new ≡ self.old) }
     {
-        self.stream.push(part, &mut self.answers)
+        let taken = self.stream.push(part, &mut self.answers)?;
+        Ok(taken)
     }
 
     /// Answers the last line, which no line feed ended.

@@ -1,6 +1,6 @@
 //! Key prefixes: the first sixteen bytes of a text as a number. They decide most comparisons, so the texts are rarely
 //! read.
-ghost use Rattle.std.specs.Prelude.{◌≡◌, ◌+◌, ◌<◌, map, slice_index_or};
+ghost use Rattle.std.specs.Prelude.{◌≡◌, ◌+◌, ◌<◌, map};
 ghost use Rattle.std.specs.Char.{to_ascii_lowercase};
 ghost use Rattle.mailmap_entries.specs.Folding.{folded, text_cmp};
 ghost use Rattle.mailmap_entries.specs.Prefixes.{IsKeyPrefix, key_prefix};
@@ -38,11 +38,21 @@ impl<'a> Prefixed<'a> {
     {
         Prefixed { text, prefix }
     }
+
+    /// Compares two texts as [`cmp_ignore_ascii_case`] does. Reads them only if their prefixes are equal.
+    #[inline(always)]
+    pub fn compare(self, other: Prefixed<'_>) -> Ordering
+        ensures { result ≡ text_cmp (folded self.entry.text.now) (folded other.entry.text.now) }
+    {
+        match self.prefix.cmp(&other.prefix) {
+            Ordering::Equal => compare_after_prefix(self.text, other.text),
+            unequal => unequal,
+        }
+    }
 }
 
 impl Steps {
-    /// Compares two texts as [`cmp_ignore_ascii_case`] does, and counts it as one comparison. Reads the texts only if
-    /// their prefixes are equal.
+    /// Compares two texts as [`Prefixed::compare`] does, and counts it as one comparison.
     #[inline(always)]
     pub fn compare_prefixed(&mut self, a: Prefixed<'_>, b: Prefixed<'_>) -> Ordering
         requires { self.old < usize.MAX }
@@ -50,10 +60,7 @@ impl Steps {
         ensures counted { self.new ≡ self.old + 1 }
     {
         self.count += 1;
-        match a.prefix.cmp(&b.prefix) {
-            Ordering::Equal => compare_after_prefix(a.text, b.text),
-            unequal => unequal,
-        }
+        a.compare(b)
     }
 }
 
@@ -62,10 +69,20 @@ impl Steps {
 pub fn key_prefix(text: &[u8]) -> u128
     ensures { IsKeyPrefix result (folded text.now) }
 {
-    let Some(prefix) = text.first_chunk::<16>() else {
-        return short_number(text);
-    };
-    u128::from_be_bytes(lowercase(prefix))
+    u128::from_be_bytes(lowercase(&first_bytes(text)))
+}
+
+// The first sixteen bytes, with zeros after a shorter text.
+#[inline(always)]
+fn first_bytes(text: &[u8]) -> [u8; 16]
+    ensures { key_prefix 16 (map to_ascii_lowercase result) ≡ key_prefix 16 (folded text.now) }
+{
+    if let Some(first) = text.first_chunk::<16>() {
+        return *first;
+    }
+    let mut bytes = [0; 16];
+    bytes[..text.len()].copy_from_slice(text);
+    bytes
 }
 
 // All sixteen bytes in lower case at once.
@@ -76,28 +93,6 @@ fn lowercase(bytes: &[u8; 16]) -> [u8; 16]
     let lanes = u8x16::from_array(*bytes);
     let is_upper = lanes.simd_ge(u8x16::splat(b'A')) & lanes.simd_le(u8x16::splat(b'Z'));
     is_upper.select(lanes + u8x16::splat(32), lanes).to_array()
-}
-
-// The prefix of a text that may be shorter than sixteen bytes.
-fn short_number(text: &[u8]) -> u128
-    ensures { IsKeyPrefix result (folded text.now) }
-{
-    let mut number = 0;
-    for i in 0..16 {
-        number = number * 256 + folded_at(text, i) as u128;
-    }
-    number
-}
-
-// The byte at the index in lower case, or 0 past the end.
-fn folded_at(text: &[u8], i: usize) -> u8
-    ensures { result ≡ slice_index_or (folded text.now) i 0 }
-{
-    if i < text.len() {
-        text[i].to_ascii_lowercase()
-    } else {
-        0
-    }
 }
 
 /// Compares two texts with equal prefixes as [`cmp_ignore_ascii_case`] does, but skips their first sixteen bytes.

@@ -1,18 +1,17 @@
 //! Findings about what the entry of a line does.
-ghost use Rattle.std.specs.Prelude.{◌≡◌, [], unwrap_or};
+ghost use Rattle.std.specs.Prelude.{◌≡◌};
 ghost use Rattle.std.specs.Option.{option_and_then, option_map};
 ghost use Rattle.mailmap_entries.specs.Entries.{mapping_of};
-ghost use Rattle.mailmap_redundancy.specs.Redundancy.{entries, located_of};
+ghost use Rattle.mailmap_redundancy.specs.Redundancy.{entries};
 ghost use Rattle.mailmap_findings.specs.Explanations.{explained};
-ghost use Rattle.mailmap_findings.specs.Findings.{contact_of, kind_of, no_effect_beside, reported_of_proper, says_same};
+ghost use Rattle.mailmap_findings.specs.Findings.{contact_of, kind_of, reported_of_proper};
 ghost use Rattle.mailmap_findings.specs.Findings.{proper_contact as spec_contact, replaced_contact as spec_replaced};
-ghost use Rattle.mailmap_findings.specs.Findings.{reported_by};
 ghost use Rattle.mailmap_findings.specs.Findings.{reported_of_entry as spec_reported};
 
 use crate::explain::{Explanation, explanation_of};
 use crate::verify::{Contact, FindingKind};
 use mailmap_entries::Entry;
-use mailmap_redundancy::{Effective, LocatedEntry};
+use mailmap_redundancy::Effective;
 
 /// Reports an entry without effect, or one whose contact is itself mapped.
 pub(crate) fn reported_of_entry<'a>(
@@ -29,23 +28,11 @@ pub(crate) fn reported_of_entry<'a>(
         return reported_of_contact(effective, proper_contact(&entry));
     }
     let beside = effective.beside(&entry)?;
-    Some(reported_beside(&entry, beside))
-}
-
-fn reported_beside<'a>(entry: &Entry<'_>, beside: &LocatedEntry<'_>) -> FindingKind<'a>
-    ensures { kind_of result ≡ no_effect_beside (mapping_of entry.now) (located_of beside.now) }
-{
-    FindingKind::NoEffect {
+    Some(FindingKind::NoEffect {
         beside: beside.position,
-        is_same: says_same(entry, &beside.entry),
-    }
-}
-
-// Whether two entries give the same new name and the same new email.
-fn says_same(a: &Entry<'_>, b: &Entry<'_>) -> bool
-    ensures { result ≡ says_same (mapping_of a.now) (mapping_of b.now) }
-{
-    a.new_name() == b.new_name() && a.new_email() == b.new_email()
+        is_same: entry.new_name() == beside.entry.new_name()
+            && entry.new_email() == beside.entry.new_email(),
+    })
 }
 
 // Reports a contact that is mapped to another one.
@@ -56,18 +43,9 @@ fn reported_of_contact<'a>(
     ensures { option_map kind_of result
         ≡ reported_of_proper (entries effective.now.history) effective.now.kept (contact_of contact.entry) }
 {
-    let found = explanation_of(effective, name_or_empty(&contact), contact.email)?;
-    reported_of_both(contact, replaced_contact(contact, &found), &found)
-}
-
-fn reported_of_both<'a>(
-    contact: Contact<'a>,
-    to: Contact<'a>,
-    found: &Explanation<'a>,
-) -> Option<FindingKind<'a>>
-    ensures { option_map kind_of result
-        ≡ reported_by (contact_of contact.entry) (contact_of to.entry) found.now.first found.now.second }
-{
+    let name = contact.name.unwrap_or(b"");
+    let found = explanation_of(effective, name, contact.email)?;
+    let to = replaced_contact(contact, &found);
     if contact == to {
         return None;
     }
@@ -89,25 +67,12 @@ fn proper_contact<'a>(entry: &Entry<'a>) -> Contact<'a>
     }
 }
 
-fn name_or_empty<'a>(contact: &Contact<'a>) -> &'a [u8]
-    ensures { result.now ≡ unwrap_or (contact_of contact.now).name [] }
-{
-    match contact.name {
-        None => &[],
-        Some(name) => name,
-    }
-}
-
 // The contact with its fields overridden by what is found. A contact without a name gets none.
 fn replaced_contact<'a>(contact: Contact<'a>, found: &Explanation<'a>) -> Contact<'a>
     ensures { contact_of result ≡ spec_replaced (explained found.now) (contact_of contact.entry) }
 {
-    let email = found.email.unwrap_or(contact.email);
-    match contact.name {
-        None => Contact { name: None, email },
-        Some(name) => Contact {
-            name: Some(found.name.unwrap_or(name)),
-            email,
-        },
+    Contact {
+        name: contact.name.and(found.name).or(contact.name),
+        email: found.email.unwrap_or(contact.email),
     }
 }

@@ -1,13 +1,9 @@
 //! The lines of buffers, with their positions.
-ghost use Rattle.std.specs.Prelude.{◌≡◌, ◌≢◌, ◌<◌, ◌^◌, [], false, length, map, true, IfSome};
+ghost use Rattle.std.specs.Prelude.{◌≡◌, ◌≢◌, ◌<◌, ◌^◌, [], false, length, map, true};
 ghost use Rattle.std.specs.Iterator.{YieldsFirstBy, item_count};
-ghost use Rattle.std.proofs.Props.{props};
-ghost use Rattle.mailmap_entries.specs.Entries.{mapping_of};
 ghost use Rattle.mailmap_findings.specs.Positions.{line_of, located_lines, whole_lines};
-ghost use Rattle.mailmap_findings.specs.Clean.{HasOnlyEntry};
 
 use bstr::{ByteSlice, LinesWithTerminator};
-use mailmap_entries::Entry;
 use mailmap_redundancy::Position;
 use std::marker::Model;
 
@@ -16,15 +12,6 @@ use std::marker::Model;
 pub(crate) struct Line<'a> {
     pub(crate) position: Position,
     pub(crate) text: &'a [u8],
-}
-
-/// A line, whether its entry is effective, and its entry if the line is known to be clean.
-#[derive(Clone, Copy)]
-pub(crate) struct KnownLine<'a> {
-    pub(crate) line: Line<'a>,
-    pub(crate) is_kept: bool,
-    pub(crate) known: Option<Entry<'a>>,
-    ghost is_known: { IfSome known (λ e. HasOnlyEntry (line_of line) (mapping_of e)) } by { Prim.hlevel props },
 }
 
 /// Iterates over the lines of all buffers in order.
@@ -76,7 +63,7 @@ impl<'b, 'a> Iterator for BufferLines<'b, 'a> {
 
     ghost remaining = { item_count (λ s. s) };
 
-    #[tactic(auto, using(crate::proofs::BufferLines::left_first, crate::proofs::BufferLines::left_next, crate::proofs::BufferLines::left_none))]
+    #[tactic(auto, using(crate::proofs::Lines::left_next, crate::proofs::Lines::left), unfolding(crate::specs::Positions::located_from, crate::specs::Positions::lines_from))]
     fn next(&mut self) -> Option<Line<'a>> {
         loop {
             if let Some(text) = self.lines.next() {

@@ -1,14 +1,13 @@
 //! Answers contacts that arrive in parts.
-ghost use Rattle.std.specs.Prelude.{◌≡◌, ◌++◌, ◌<◌, ◌≤◌, ◌⊎◌, ℕ, [], List, IfOk, IsTrue, OnErr, OnOk, length, map, take};
-ghost use Rattle.bstr.specs.Text.{without_terminator};
+ghost use Rattle.std.specs.Prelude.{◌≡◌, ◌++◌, ◌<◌, ◌≤◌, ◌⊎◌, [], List, IfOk, IsTrue, OnErr, OnOk, length, map, take};
 ghost use Rattle.mailmap_entries.specs.Entries.{Mapping};
 ghost use Rattle.mailmap_entries.specs.Folding.{Text};
 ghost use Rattle.mailmap_grammar.specs.Lines.{HoldsNo};
 ghost use Rattle.mailmap_snapshot.specs.Contacts.{answer, answers, answers_by};
-ghost use Rattle.mailmap_snapshot.specs.Streams.{AreCachedAnswers, AnswersFront, IsOneLine};
+ghost use Rattle.mailmap_snapshot.specs.Streams.{AreCachedAnswers, AnswersFront, HasRead};
 ghost use Rattle.mailmap_snapshot.specs.declared.check.stream.Stop.TheVariants.{Enough};
 
-use crate::check::{push_one, snapshot_of};
+use crate::check::{push_answers, snapshot_of};
 use crate::snapshot::Snapshot;
 use answer_cache::{AnswerCache, ROW_LEN, hash_of};
 use bstr::ByteSlice;
@@ -20,7 +19,7 @@ use std::mem::swap;
 /// `push` returns early once the text is this long, so that callers can write the answers before there are more.
 const ENOUGH: usize = 65536;
 
-// Why a push took no more of a part.
+// Why a push took no more of a part. Only a clause reads it.
 #[derive(Clone, Copy)]
 enum Stop {
     // The part ended, or the text is long enough.
@@ -64,6 +63,7 @@ impl Model for ContactStream {
 
 impl ContactStream {
     /// Makes a stream that answers with the mappings of the buffers, later ones after earlier ones.
+    #[tactic(auto, using(crate::proofs::Streams::same_answers))]
     pub fn new(alloc: Global, buffers: &[&[u8]]) -> Result<ContactStream, AllocError>
         ensures { IfOk result (λ s. (s.kept ≡ [])
             × ((t : Text) → answers s.mappings t ≡ answers_by (map (λ b. b.now) buffers.now) t)) }
@@ -88,47 +88,8 @@ impl ContactStream {
             × (self.new.mappings ≡ self.old.mappings)) }
         ensures err { OnErr result ((self.new ≡ self.old) × (text.new.items ≡ text.old.items)) }
     {
-        let (taken, _) = self.push_lines(part, text)?;
+        let (taken, _) = push_lines(&mut self.kept, part, &self.snapshot, &mut self.cache, text)?;
         Ok(taken)
-    }
-
-    // Does what `push` does. Also returns why it took no more.
-    fn push_lines(&mut self, part: &[u8], text: &mut Vec<u8>) -> Result<(usize, Stop), AllocError>
-        ensures takes { IfOk result (λ taken. (taken.0 ≤ length part.now) × (0 < length part.now → 0 < taken.0)) }
-        ensures enough { IfOk result (λ taken. taken.1 ≡ Enough
-            → (taken.0 ≡ length part.now) ⊎ (65536 ≤ length text.new.items)) }
-        ensures answers { IfOk result (λ taken. (made : Text) × (text.new.items ≡ text.old.items ++ made)
-            × AnswersFront self.old.mappings (self.old.kept ++ take taken.0 part.now) made self.new.kept) }
-        ensures keeps { OnOk result ((HoldsNo 10 self.old.kept → HoldsNo 10 self.new.kept)
-            × (self.new.mappings ≡ self.old.mappings)) }
-        ensures err { OnErr result ((self.new ≡ self.old) × (text.new.items ≡ text.old.items)) }
-    {
-        let mut taken = self.push_line(part, text)?;
-        while taken < part.len() && text.len() < ENOUGH {
-            match self.push_line(&part[taken..], text) {
-                Ok(count) => taken += count,
-                Err(_) => return Ok((taken, Stop::OutOfMemory)),
-            }
-        }
-        Ok((taken, Stop::Enough))
-    }
-
-    // Takes the first line of a part with its line feed, and answers it. Without a line feed, keeps the whole part.
-    fn push_line(&mut self, part: &[u8], text: &mut Vec<u8>) -> Result<usize, AllocError>
-        ensures takes { IfOk result (λ taken. (taken ≤ length part.now) × (0 < length part.now → 0 < taken)) }
-        ensures answers { IfOk result (λ taken. (made : Text) × (text.new.items ≡ text.old.items ++ made)
-            × AnswersFront self.old.mappings (self.old.kept ++ take taken part.now) made self.new.kept) }
-        ensures keeps { OnOk result ((HoldsNo 10 self.old.kept → HoldsNo 10 self.new.kept)
-            × (self.new.mappings ≡ self.old.mappings)) }
-        ensures err { OnErr result ((self.new ≡ self.old) × (text.new.items ≡ text.old.items)) }
-    {
-        let Some(feed) = part.find_byte(b'\n') else {
-            self.kept.extend_from_slice(part)?;
-            return Ok(part.len());
-        };
-        let line = &part[..feed + 1];
-        end_line(&mut self.kept, line, &self.snapshot, &mut self.cache, text)?;
-        Ok(line.len())
     }
 
     /// Appends the answer to a last line without a line feed, if there is one.
@@ -155,10 +116,61 @@ impl ContactStream {
             swap(&mut self.kept, text);
             return Ok(());
         }
-        push_one(text, &self.snapshot, self.kept.as_slice())?;
+        push_answers(text, &self.snapshot, self.kept.as_slice())?;
         self.kept.clear();
         Ok(())
     }
+}
+
+// Does what `push` does. Also returns why it took no more.
+#[tactic(auto, using(crate::proofs::Streams::next))]
+fn push_lines(
+    kept: &mut Vec<u8>,
+    part: &[u8],
+    snapshot: &Snapshot,
+    cache: &mut AnswerCache,
+    text: &mut Vec<u8>,
+) -> Result<(usize, Stop), AllocError>
+    requires { AreCachedAnswers snapshot.now cache.old }
+    ensures ok { IfOk result (λ taken. HasRead snapshot.now kept.old.items part.now text.old.items taken.0
+        kept.new.items text.new.items) }
+    ensures enough { IfOk result (λ taken. taken.1 ≡ Enough
+        → (taken.0 ≡ length part.now) ⊎ (65536 ≤ length text.new.items)) }
+    ensures err { OnErr result ((kept.new.items ≡ kept.old.items) × (text.new.items ≡ text.old.items)) }
+    ensures cache { AreCachedAnswers snapshot.now cache.new }
+{
+    let mut taken = push_line(kept, part, snapshot, cache, text)?;
+    while taken < part.len() && text.len() < ENOUGH {
+        match push_line(kept, &part[taken..], snapshot, cache, text) {
+            Ok(count) => taken += count,
+            Err(_) => return Ok((taken, Stop::OutOfMemory)),
+        }
+    }
+    Ok((taken, Stop::Enough))
+}
+
+// Takes the first line of a part with its line feed, and answers it. Without a line feed, keeps the whole part.
+#[tactic(auto, using(crate::proofs::Streams::kept_part))]
+fn push_line(
+    kept: &mut Vec<u8>,
+    part: &[u8],
+    snapshot: &Snapshot,
+    cache: &mut AnswerCache,
+    text: &mut Vec<u8>,
+) -> Result<usize, AllocError>
+    requires { AreCachedAnswers snapshot.now cache.old }
+    ensures ok { IfOk result (λ taken. HasRead snapshot.now kept.old.items part.now text.old.items taken
+        kept.new.items text.new.items) }
+    ensures err { OnErr result ((kept.new.items ≡ kept.old.items) × (text.new.items ≡ text.old.items)) }
+    ensures cache { AreCachedAnswers snapshot.now cache.new }
+{
+    let Some(feed) = part.find_byte(b'\n') else {
+        kept.extend_from_slice(part)?;
+        return Ok(part.len());
+    };
+    let line = &part[..feed + 1];
+    end_line(kept, line, snapshot, cache, text)?;
+    Ok(line.len())
 }
 
 // Answers the line that starts with the kept bytes and ends with `rest`, and keeps nothing. If this fails, the kept
@@ -170,9 +182,7 @@ fn end_line(
     cache: &mut AnswerCache,
     text: &mut Vec<u8>,
 ) -> Result<(), AllocError>
-    requires answers { AreCachedAnswers snapshot.now cache.old }
-    requires no_feed { HoldsNo 10 kept.old.items }
-    requires one { IsOneLine rest.now }
+    requires { AreCachedAnswers snapshot.now cache.old }
     ensures ok { OnOk result (text.new.items ≡ text.old.items ++ answers snapshot.now (kept.old.items ++ rest.now)) }
     ensures ended { OnOk result (kept.new.items ≡ []) }
     ensures err { OnErr result ((kept.new.items ≡ kept.old.items) × (text.new.items ≡ text.old.items)) }
@@ -183,32 +193,9 @@ fn end_line(
     }
     let begun = kept.len();
     kept.extend_from_slice(rest)?;
-    let pushed = push_line_answer(text, snapshot, cache, kept.as_slice());
+    let pushed = push_joined_answer(text, snapshot, cache, kept.as_slice());
     kept.truncate(if pushed.is_ok() { 0 } else { begun });
     pushed
-}
-
-// Appends the answer to a line with its line feed. If this fails, the text stays as it was.
-fn push_ended(text: &mut Vec<u8>, snapshot: &Snapshot, line: &[u8]) -> Result<(), AllocError>
-    requires { IsOneLine line.now }
-    ensures ok { OnOk result (text.new.items ≡ text.old.items ++ answers snapshot.now line.now) }
-    ensures err { OnErr result (text.new.items ≡ text.old.items) }
-{
-    push_one(text, snapshot, without_end(line))
-}
-
-// A line without its line end.
-fn without_end(line: &[u8]) -> &[u8]
-    ensures { result.now ≡ without_terminator line.now }
-{
-    let len = line.len();
-    if len == 0 || line[len - 1] != b'\n' {
-        return line;
-    }
-    if len == 1 || line[len - 2] != b'\r' {
-        return &line[..len - 1];
-    }
-    &line[..len - 2]
 }
 
 // Whether a line isn't a contact, so that it is its own answer.
@@ -221,47 +208,46 @@ fn is_own_answer(line: &[u8]) -> bool
     }
 }
 
-// Does what `push_cached_answer` does for a line that was joined, which may be much longer than a part. It isn't hashed
-// if it is too long for the cache. A function of its own, so that `push_line` is short enough to be inlined.
+// Does what `push_cached_answer` does for a line that was joined. It isn't inlined, so that the loop of `push` has one copy
+// of `push_cached_answer`, and takes three quarters of the time that it takes with two.
 #[inline(never)]
-fn push_line_answer(
+fn push_joined_answer(
     text: &mut Vec<u8>,
     snapshot: &Snapshot,
     cache: &mut AnswerCache,
     line: &[u8],
 ) -> Result<(), AllocError>
-    requires answers { AreCachedAnswers snapshot.now cache.old }
-    requires one { IsOneLine line.now }
+    requires { AreCachedAnswers snapshot.now cache.old }
     ensures ok { OnOk result (text.new.items ≡ text.old.items ++ answers snapshot.now line.now) }
     ensures err { OnErr result (text.new.items ≡ text.old.items) }
     ensures cache { AreCachedAnswers snapshot.now cache.new }
 {
-    if line.len() > ROW_LEN {
-        return push_ended(text, snapshot, line);
-    }
     push_cached_answer(text, snapshot, cache, line)
 }
 
 // Appends the answer to a line with its line feed, from the cache if possible. Inserts the line into the cache at its
-// second miss. If this fails, the text stays as it was.
+// second miss. A line that is too long for the cache isn't hashed. If this fails, the text stays as it was.
+#[inline(always)]
 fn push_cached_answer(
     text: &mut Vec<u8>,
     snapshot: &Snapshot,
     cache: &mut AnswerCache,
     line: &[u8],
 ) -> Result<(), AllocError>
-    requires answers { AreCachedAnswers snapshot.now cache.old }
-    requires one { IsOneLine line.now }
+    requires { AreCachedAnswers snapshot.now cache.old }
     ensures ok { OnOk result (text.new.items ≡ text.old.items ++ answers snapshot.now line.now) }
     ensures err { OnErr result (text.new.items ≡ text.old.items) }
     ensures cache { AreCachedAnswers snapshot.now cache.new }
 {
+    if line.len() > ROW_LEN {
+        return push_answers(text, snapshot, line);
+    }
     let hash = hash_of(line);
     if let Some(answer) = cache.get(hash, line) {
         return text.extend_from_slice(answer);
     }
     let begun = text.len();
-    push_ended(text, snapshot, line)?;
+    push_answers(text, snapshot, line)?;
     if cache.note_miss(hash) {
         cache.insert(hash, line, &text.as_slice()[begun..]);
     }

@@ -7,9 +7,8 @@ ghost use Rattle.mailmap_entries.specs.Semantics.{IsNormal, accepted};
 ghost use Rattle.mailmap_grammar.specs.Lines.{mappings_of};
 ghost use Rattle.mailmap_entries.specs.declared.entry.Entry.{Entry as Item};
 
-use crate::snapshot::Snapshot;
+use crate::snapshot::{Snapshot, Source};
 use mailmap_entries::Entry;
-use mailmap_grammar::parse_ignore_errors;
 use std::alloc::{AllocError, Global};
 
 impl Snapshot {
@@ -20,7 +19,9 @@ impl Snapshot {
         // out of memory is reported only after an entry was accepted
         ensures out_of_memory { OnErr result (accepted (mappings_of buf.now) ≢ []) }
     {
-        Snapshot::new(alloc, parse_ignore_errors(buf))
+        let mut snapshot = Snapshot::empty(alloc);
+        snapshot.merge_source(&Source::Buffer(buf))?;
+        Ok(snapshot)
     }
 
     /// Makes a snapshot of `entries`.
@@ -41,7 +42,8 @@ impl Snapshot {
         Ok(snapshot)
     }
 
-    /// Merges `entries` after those that the snapshot has. Entries without a new name and a new email have no effect.
+    /// Merges `entries` after those that the snapshot has. Entries with neither a new name nor a
+    /// new email have no effect.
     pub fn merge<'a, I: Iterator<Item = Entry<'a>> + Drop>(
         &mut self,
         entries: I,

@@ -70,11 +70,19 @@ impl PartialEq for Snapshot {
     ghost laws = { partly_equal_entries };
 
     /// Whether the listings are equal. It doesn't matter how the snapshots were built.
+    #[tactic(auto, using(mailmap_entries::proofs::EqualListings::entries_decide))]
     fn eq(&self, other: &Snapshot) -> bool
         ensures value { result ≡ same_entries self.now other.now }
         ensures same { IsTrue result ↔ (self.now ≡ other.now) }
     {
-        self.iter().eq(other.iter())
+        let mut others = other.iter();
+        for entry in self.iter() {
+            match others.next() {
+                Some(found) if found == entry => {}
+                _ => return false,
+            }
+        }
+        others.next().is_none()
     }
 }
 

@@ -9,13 +9,24 @@ ghost use Rattle.mailmap_tables.specs.Pool.{LiesIn, spelled};
 ghost use Rattle.mailmap_entries.specs.Search.{digits};
 ghost use Rattle.mailmap_snapshot.specs.Signatures.{resolved_fields, email_count, name_count};
 
+use crate::actor::SignatureRef;
 use crate::snapshot::Snapshot;
-use crate::snapshot::resolved::ResolvedSignature;
 use mailmap_entries::fold::Steps;
-use mailmap_signatures::actor::SignatureRef;
 use mailmap_tables::search::{find_email_counted, find_name_counted};
 use mailmap_tables::texts::Span;
 use mailmap_tables::view::View;
+
+/// A name and an email that replace those of a signature. They borrow from the snapshot: they can outlive the
+/// signature, but not the next merge into the snapshot.
+///
+/// Every answer has at least one of the two.
+#[derive(Drop)]
+pub struct ResolvedSignature<'a> {
+    /// The name, `None` if the signature keeps its own.
+    pub name: Option<&'a [u8]>,
+    /// The email, `None` if the signature keeps its own.
+    pub email: Option<&'a [u8]>,
+}
 
 /// What tables answer to a name and an email.
 #[inline(always)]
@@ -34,23 +45,21 @@ fn look_up<'a>(
     ensures at_least { steps.old + min 1 (length tables.now.groups)
         + min 1 (name_count (listing tables.now.groups) email.now) ≤ steps.new }
 {
-    let Ok(index) = find_email_counted(tables, 0, email, steps) else {
+    let Ok(index) = find_email_counted(tables, email, steps) else {
         return None;
     };
-    let (texts, names) = tables.email(index);
-    match find_name_counted(tables, names, name, steps) {
-        Ok(i) => {
-            let (new_name, new_email) = tables.fields(names[i]);
-            answer(tables, texts.old(), new_name, new_email, email)
-        }
-        Err(_) => {
-            let (new_name, new_email) = tables.fields(texts);
-            answer(tables, texts.old(), new_name, new_email, email)
-        }
-    }
+    let (own, names) = tables.email(index);
+    let texts = match find_name_counted(tables, names, name, steps) {
+        Ok(i) => names[i],
+        Err(_) => own,
+    };
+    let (new_name, new_email) = tables.fields(texts);
+    answer(tables, own.old(), new_name, new_email, email)
 }
 
-// The answer from the stored fields, for an email that was looked up as `current_email`.
+// The answer from the stored fields, for an email that was looked up as `current_email`. Without a new email, the stored
+// spelling replaces a different one.
+#[tactic(auto, using(crate::proofs::Resolved::same_text))]
 fn answer<'a>(
     tables: &View<'a>,
     old_email: Span,
@@ -67,12 +76,17 @@ fn answer<'a>(
     }) (Some (spelled tables.now.pool old_email)) }
     ensures says { IfSome result (λ r. IsTrue (is_some r.name || is_some r.email)) }
 {
-    ResolvedSignature::try_new(
-        tables.optional_text(new_email),
-        tables.text(old_email),
-        current_email,
-        tables.optional_text(new_name),
-    )
+    let matched_email = tables.text(old_email);
+    let email = match tables.optional_text(new_email) {
+        Some(email) => Some(email),
+        None if matched_email == current_email => None,
+        None => Some(matched_email),
+    };
+    let name = tables.optional_text(new_name);
+    if name.is_none() && email.is_none() {
+        return None;
+    }
+    Some(ResolvedSignature { name, email })
 }
 
 /// Lookups. They don't allocate.
@@ -99,6 +113,7 @@ impl Snapshot {
 
     /// Does what [`try_resolve_ref`](Snapshot::try_resolve_ref()) does, for a name and an email without a signature.
     #[inline(always)]
+    #[tactic(auto, using(mailmap_entries::proofs::Alike::same_scan, mailmap_entries::proofs::Normal::alike_normal))]
     pub fn try_resolve_contact(&self, name: &[u8], email: &[u8]) -> Option<ResolvedSignature<'_>>
         ensures view { option_map resolved_fields result ≡ answer_of self.now name.now email.now }
 
@@ -117,6 +132,7 @@ impl Snapshot {
     /// comparisons as E and N have binary digits together. There is at least one for each of E and N that is not 0. If
     /// the email is not found, N is 0.
     #[inline(always)]
+    #[tactic(auto, using(mailmap_entries::proofs::Alike::same_scan, mailmap_entries::proofs::Normal::alike_normal, crate::proofs::Resolved::listed_emails))]
     pub fn try_resolve_ref_counted(
         &self,
         signature: SignatureRef<'_>,

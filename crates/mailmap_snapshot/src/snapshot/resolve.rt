@@ -1,15 +1,16 @@
 //! Signatures with mapped names and emails, owned or copied on write.
-ghost use Rattle.std.specs.Prelude.{◌≡◌, ◌↔◌, ◌||◌, List, IsSome, IsTrue, is_some, IfOk, IfSome, OnErr};
+ghost use Rattle.std.specs.Prelude.{◌≡◌, ◌↔◌, List, IsSome, IfOk, IfSome, MatchOption, OnErr};
 ghost use Rattle.std.specs.Cow.{cow_slice_items, IsOwnedSlice};
-ghost use Rattle.mailmap_signatures.specs.SignatureFields.{owned_fields, cow_fields};
+ghost use Rattle.std.specs.Option.{option_copied};
+ghost use Rattle.mailmap_snapshot.specs.SignatureFields.{owned_fields, cow_fields};
 ghost use Rattle.mailmap_snapshot.specs.Answers.{signature_answer, IsResolved, OwnsMapped, IsEnriched, OwnsJust};
 ghost use Rattle.mailmap_entries.specs.Entries.{Mapping};
 ghost use Rattle.mailmap_entries.specs.Semantics.{IsNormal};
 ghost use Rattle.mailmap_snapshot.specs.Signatures.{resolved_fields};
 
+use crate::actor;
+use crate::actor::SignatureRef;
 use crate::snapshot::{ResolvedSignature, Signature, Snapshot};
-use mailmap_signatures::actor;
-use mailmap_signatures::actor::SignatureRef;
 use std::alloc::{AllocError, Global};
 use std::borrow::CowSlice;
 
@@ -118,40 +119,34 @@ impl Snapshot {
     }
 }
 
-/// The signature, with copies of the fields that a lookup found in place of its own. There is always at least one.
+/// The signature, with copies of the fields that a lookup found in place of its own.
 fn enriched_signature<'a>(
     alloc: Global,
     signature: SignatureRef<'a>,
     found: ResolvedSignature<'_>,
 ) -> Result<Signature<'a>, AllocError>
-    requires { IsTrue (is_some found.name || is_some found.email) }
     ensures fields { IfOk result (λ s. IsEnriched (resolved_fields found.entry) signature.entry (cow_fields s)) }
     ensures owned { IfOk result (OwnsJust (resolved_fields found.entry)) }
 {
     let Signature { name, email, time } = signature.into();
-    match (found.email, found.name) {
-        (Some(new_email), Some(new_name)) => Ok(Signature {
-            email: owned(alloc, new_email)?,
-            name: owned(alloc, new_name)?,
-            time,
-        }),
-        (Some(new_email), None) => Ok(Signature {
-            email: owned(alloc, new_email)?,
-            name,
-            time,
-        }),
-        (None, Some(new_name)) => Ok(Signature {
-            email,
-            name: owned(alloc, new_name)?,
-            time,
-        }),
-        (None, None) => unreachable!(),
-    }
+    Ok(Signature {
+        email: mapped(alloc, found.email, email)?,
+        name: mapped(alloc, found.name, name)?,
+        time,
+    })
 }
 
-fn owned<'a>(alloc: Global, text: &[u8]) -> Result<CowSlice<'a, u8>, AllocError>
-    ensures items { IfOk result (λ copy. cow_slice_items copy ≡ text.now) }
-    ensures owned { IfOk result IsOwnedSlice }
+// A copy of the new text, or without one the signature's own.
+fn mapped<'a>(
+    alloc: Global,
+    new: Option<&[u8]>,
+    own: CowSlice<'a, u8>,
+) -> Result<CowSlice<'a, u8>, AllocError>
+    ensures { IfOk result (λ text. MatchOption (option_copied new.entry) (text ≡ own.entry)
+        (λ t. (cow_slice_items text ≡ t) × IsOwnedSlice text)) }
 {
-    Ok(CowSlice::Owned(Vec::from_slice(alloc, text)?))
+    match new {
+        Some(text) => Ok(CowSlice::Owned(Vec::from_slice(alloc, text)?)),
+        None => Ok(own),
+    }
 }

@@ -1,10 +1,9 @@
 //! Merges several sources. If memory runs out, a source is skipped, and this is reported.
-ghost use Rattle.std.specs.Prelude.{◌≡◌, ◌≢◌, ℕ, [], Some, true, false, length, slice_get, OnOk, OnErr};
+ghost use Rattle.std.specs.Prelude.{◌≡◌, ◌≢◌, [], false, length, OnOk, OnErr};
 ghost use Rattle.std.specs.List.{All};
 ghost use Rattle.mailmap_entries.specs.Building.{IsMerged};
 ghost use Rattle.mailmap_entries.specs.Semantics.{accepted};
-ghost use Rattle.mailmap_snapshot.specs.Sources.{merged_mappings, source_mappings};
-ghost use Rattle.mailmap_snapshot.specs.declared.snapshot.sources.Source.{Source as AnySource};
+ghost use Rattle.mailmap_snapshot.specs.Sources.{AreMarks, merged_mappings, source_mappings};
 
 use crate::snapshot::Snapshot;
 use mailmap_entries::Entry;
@@ -31,8 +30,7 @@ impl Snapshot {
         ensures none_made { All (λ is_made. is_made ≡ false) made.new → self.new ≡ self.old }
 
         // memory can run out only for a source with an accepted entry, so all others are marked as made
-        ensures never_out_of_memory { (i : ℕ) (s : AnySource) → slice_get sources.now i ≡ Some s
-            → accepted (source_mappings s) ≡ [] → slice_get made.new i ≡ Some true }
+        ensures never_out_of_memory { AreMarks sources.now made.new }
         ensures marks { length made.new ≡ length made.old }
     {
         // This shows the prover the invariant of the tables: the listing is its own normal list.
@@ -42,7 +40,8 @@ impl Snapshot {
         }
     }
 
-    fn merge_source(&mut self, source: &Source<'_>) -> Result<(), AllocError>
+    /// Merges a source after those before it. `Err` if memory runs out: then the snapshot stays as it was.
+    pub fn merge_source(&mut self, source: &Source<'_>) -> Result<(), AllocError>
         ensures ok { OnOk result (IsMerged self.old (source_mappings source.now) self.new) }
         ensures err { OnErr result (self.new ≡ self.old) }
         ensures out_of_memory { OnErr result (accepted (source_mappings source.now) ≢ []) }

@@ -89,15 +89,7 @@ impl Snapshot {
     {
         // no listing has more entries than the tables have rows, so the index can't overflow
         let _rows = self.tables.view().row_count();
-        let entries = self.iter();
-        let mut index = 0;
-        for entry in entries {
-            if !is_writable(&entry) {
-                return Some(index);
-            }
-            index += 1;
-        }
-        None
+        self.iter().position(|entry| !is_writable(&entry))
     }
 
     // The length of the text, `None` if it overflows.

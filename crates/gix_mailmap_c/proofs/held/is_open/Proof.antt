@@ -3,8 +3,8 @@ use Rattle.gix_mailmap_c.proofs.Steps.{List, [], ◌∷◌, refl, sym, proved, f
 use Rattle.gix_mailmap_c.specs.contracts.held.is_open as f
 use Rattle.gix_mailmap_c.proofs.held.is_open.Statement.{statement}
 use Rattle.gix_mailmap_c.proofs.held.is_open.Code as code
-use Rattle.gix_mailmap_c.specs.contracts.held.Mailmap.{the_row as R}
-use Rattle.gix_mailmap_c.proofs.held.Mailmap.TheLaws.{lowers}
+use Rattle.gix_mailmap_c.specs.contracts.held.Handle.{the_row as R}
+use Rattle.gix_mailmap_c.proofs.held.Handle.TheLaws.{lowers}
 
 abbrev stayed : Stays f.ended.signature.params f.ended.kept
 stayed = (stay_ref (0 ∷ []) tt (plain (λ _. R)), tt)
@@ -20,8 +20,7 @@ is_open_spec 𝓤 𝓛 𝓜 𝓡 wired =
     qed 𝓛 (((‵ (flft κs.0 qs.0) ⊛ ‵ ftrue) ⊛ ‵ ((MutRef (named 0) κs.0 R).own_val a.0 vs) ⊛ ‵ ftrue) ∷ ‵ ftrue ∷ []) ∵
     split ! $ split ! $ move ! (2 ∷ []) $ split ! $ keep ! (0 ∷ 2 ∷ []) $
     enter ! _ _ _ _ _ $ alloc_all ! (λ l. pass_all ! refl ((tt, tt), tt) $
-    fsplit3 ! $ move ! (1 ∷ 2 ∷ 3 ∷ []) $ opens ! tt R b o (λ us.
-    move ! (1 ∷ []) $ peeks ! R _ (shows 𝓛 R) h us (λ is.
+    fsplit3 ! $ move ! (1 ∷ 2 ∷ 3 ∷ []) $ opens ! tt R b o (λ us. move ! (1 ∷ []) $ peeks ! R _ (shows 𝓛 R) h us (λ is.
     let word = lowers.val_is h us is in
     let Cell = λ (ws : List Val). ‵ (cell_at full_share R.mir ws b o) in
     rewrite ! 1 Cell word refl $

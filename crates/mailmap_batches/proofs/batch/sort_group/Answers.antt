@@ -11,11 +11,15 @@ use Rattle.mailmap_entries.proofs.Keys.{keys_total}
 use Rattle.mailmap_entries.proofs.Results.{on_ok_then}
 use Rattle.mailmap_batches.specs.Batches.{email_text, first_email, key_at, mapping_at}
 use Rattle.mailmap_batches.specs.declared.indexed.IndexedEntry.{IndexedEntry}
-use Rattle.mailmap_batches.proofs.SortedGroups.{by_key, name_at, sorted_by_keys, sorted_by_names}
+use Rattle.mailmap_batches.proofs.SortedGroups.{by_key, name_at, one_sorted, sorted_by_keys, sorted_by_names}
 use Rattle.mailmap_batches.proofs.batch.sort_group.Goals as goal
 
 abbrev by_name : IndexedEntry → IndexedEntry → Bool
 by_name p q = is_lt (option_cmp text_cmp (name_at p) (name_at q))
+
+pub returns-then-len-eq1 : goal.returns-then-len-eq1
+returns-then-len-eq1 c =
+    one_sorted c.args.group.now.items (omega (arith, c.len.ensures, c.if-len-eq1.true, c.args.group.now.ok.0))
 
 pub returns-then-email_group_len-len : goal.returns-then-email_group_len-len
 returns-then-email_group_len-len c =
@@ -26,9 +30,8 @@ returns-then-email_group_len-len c =
     let compares = answers_always _ (λ a r. is_lt r ≡ by_name a.0.now a.1.0.now) _
     (λ f a r f' k. let e : r ≡ option_cmp text_cmp (name_at a.0.now) (name_at a.1.0.now) = search rules in ap is_lt e) in
     let group = c.deref.result.now in
-    let all : take c.email_group_len.result group ≡ group =
-    take_all c.email_group_len.result group
-    (omega (arith, c.if-email_group_len-len.true, c.len.ensures, c.deref.ensures.len)) in
+    let all : take c.email_group_len.result group ≡ group = take_all c.email_group_len.result group
+    (omega arith) in
     let one = subst (λ l. AllByRecursion (λ (p : IndexedEntry). email_text (mapping_at p) ≡ first_email (map mapping_at l)) l)
     c.deref.ensures.value (subst (AllByRecursion (λ (p : IndexedEntry). email_text (mapping_at p)
     ≡ first_email (map mapping_at group))) all c.email_group_len.ensures.same) in

@@ -1,12 +1,5 @@
-use Rattle.std.proofs.Common.{◌≡◌, map, take}
-use Rattle.std.specs.List.{All, enumerate_from}
-use Rattle.mailmap_entries.specs.Prefixes.{AreBytes}
-use Rattle.mailmap_batches.specs.Batches.{email_text, indexed_mapping, mapping_at}
+use Rattle.std.proofs.Common.{◌≡◌, take}
 use Rattle.mailmap_batches.proofs.batch.with_prefixes.Given as goal
 
-abbrev pub invariant-loop-index : goal.invariant-loop-index
-invariant-loop-index g l =
-    record {
-      indexed : map indexed_mapping l.batch.items ≡ enumerate_from 0 (map g.T.HasEntry.mapped (take l.index l.entries));
-      bytes : All (λ p. AreBytes (email_text (mapping_at p))) l.batch.items;
-    }
+abbrev pub invariant-loop-indexed : goal.invariant-loop-indexed
+invariant-loop-indexed l = l.prefixed.items ≡ take l.indexed-index l.batch

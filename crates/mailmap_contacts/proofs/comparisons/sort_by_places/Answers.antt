@@ -3,7 +3,7 @@ use Rattle.std.proofs.lemmas.List.Sorted.{IsPermutation-map, answers_always}
 use Rattle.mailmap_contacts.specs.Answers.{finding_view}
 use Rattle.mailmap_contacts.specs.Comparisons.{place_cmp, finding_place}
 use Rattle.mailmap_contacts.specs.declared.comparisons.ContactFinding.TheVariants.{NoContact}
-use Rattle.mailmap_contacts.proofs.Steps.{sorted_mapped}
+use Rattle.contact_counter.proofs.Steps.{sorted_mapped}
 use Rattle.mailmap_contacts.proofs.comparisons.sort_by_places.Goals as goal
 
 pub returns-clause-whole : goal.returns-clause-whole
@@ -12,8 +12,7 @@ returns-clause-whole c =
 
 pub returns-clause-in_order : goal.returns-clause-in_order
 returns-clause-in_order c =
-    let computes =
-    answers_always _ (λ a r. r ≡ finding_place (finding_view a.0.now)) _
+    let computes = answers_always _ (λ a r. r ≡ finding_place (finding_view a.0.now)) _
     (λ f a r f' k. let e : r ≡ finding_place (finding_view a.0.now) = search rules in e) in
     sorted_mapped finding_view finding_place place_cmp c.sort_unstable_by_key.new.self.items (NoContact 0)
     (c.sort_unstable_by_key.ensures.sorted (λ f. finding_place (finding_view f)) computes)

@@ -1,7 +1,7 @@
 use Rattle.std.proofs.Common.{◌+◌, map, take}
 use Rattle.mailmap_contacts.specs.Answers.{tally_at}
 use Rattle.mailmap_contacts.proofs.Propers.{propers_more}
-use Rattle.mailmap_contacts.proofs.Steps.{mapped_more}
+use Rattle.contact_counter.proofs.Steps.{mapped_more}
 use Rattle.mailmap_contacts.proofs.proper.propers_of.Goals as goal
 
 pub loop-answer-preserved : goal.loop-answer-preserved

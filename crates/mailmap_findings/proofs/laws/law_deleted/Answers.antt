@@ -1,4 +1,4 @@
-use Rattle.mailmap_findings.proofs.Deleted.{same_listing}
+use Rattle.mailmap_findings.proofs.Pruned.{same_listing}
 use Rattle.mailmap_findings.proofs.laws.law_deleted.Goals as goal
 
 pub returns : goal.returns

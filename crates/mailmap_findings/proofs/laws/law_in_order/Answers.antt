@@ -1,4 +1,4 @@
-use Rattle.mailmap_findings.proofs.BufferLines.{findings_in_order}
+use Rattle.mailmap_findings.proofs.Lines.{findings_in_order}
 use Rattle.mailmap_findings.proofs.laws.law_in_order.Goals as goal
 
 pub returns : goal.returns

@@ -1,4 +1,4 @@
-use Rattle.mailmap_findings.proofs.Deleted.{one_findings, one_pruned, some_findings, some_pruned}
+use Rattle.mailmap_findings.proofs.Pruned.{one_findings, one_pruned, some_findings, some_pruned}
 use Rattle.mailmap_findings.proofs.laws.law_one_answer.Goals as goal
 
 pub returns : goal.returns

@@ -1,4 +1,4 @@
-use Rattle.mailmap_findings.proofs.GitAnswers.{none_left, same_answer}
+use Rattle.mailmap_findings.proofs.Pruned.{none_left, same_answer}
 use Rattle.mailmap_findings.proofs.laws.law_pruned_for_git.Goals as goal
 
 pub returns : goal.returns

@@ -1,4 +1,4 @@
-use Rattle.mailmap_redundancy.proofs.Passing.{IsPassing}
+use Rattle.mailmap_redundancy.proofs.Rows.{IsPassing}
 use Rattle.mailmap_redundancy.proofs.passes.drop_redundant_once.Given as goal
 
 abbrev pub invariant-loop-x : goal.invariant-loop-x

@@ -3,7 +3,7 @@ use Rattle.std.proofs.Common.{map, arith}
 use Rattle.std.proofs.lemmas.List.{length-map}
 use Rattle.mailmap_redundancy.specs.Redundancy.{located_of}
 use Rattle.mailmap_redundancy.specs.Numbers.{located_entry_of, mappings}
-use Rattle.mailmap_redundancy.proofs.Passing.{further, over}
+use Rattle.mailmap_redundancy.proofs.Rows.{further, over}
 use Rattle.mailmap_redundancy.proofs.passes.drop_until_stable.Goals as goal
 
 pub loop-len-preserved : goal.loop-len-preserved

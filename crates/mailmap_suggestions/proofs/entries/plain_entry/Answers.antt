@@ -1,35 +1,46 @@
-use Rattle.std.proofs.Common.{◌∙◌, [], ap, subst, sym}
+use Rattle.std.proofs.Common.{◌∙◌, ◌∷◌, [], ◌&&◌, ap, false, sym, true}
 use Rattle.mailmap_entries.specs.Entries.{mapping_of}
 use Rattle.mailmap_contacts.specs.Answers.{tally_of}
-use Rattle.mailmap_suggestions.specs.Answered.{answered_contact}
-use Rattle.mailmap_suggestions.specs.Changes.{IsPlain, listed}
-use Rattle.mailmap_suggestions.specs.Forms.{plain_entries}
-use Rattle.mailmap_suggestions.proofs.Forms.{first_email, none_first, plain_none, plain_some, some_first, plain_ones}
+use Rattle.mailmap_suggestions.specs.Changes.{contacts_of, listed}
+use Rattle.mailmap_suggestions.specs.Forms.{are_answered, plus, short_form}
+use Rattle.mailmap_suggestions.proofs.Forms.{answered_all, plain_answered, plain_formed, plain_nobody, plain_tried}
 use Rattle.mailmap_suggestions.proofs.entries.plain_entry.Goals as goal
 
-pub returns-in_err-first-clause-entries : goal.returns-in_err-first-clause-entries
-returns-in_err-first-clause-entries c = λ h email all.
-    let to = (tally_of c.args.to.now).contact in
-    ap listed c.from_residual.ensures ∙ sym (ap (plain_entries h to) (none_first (plain_ones h c.args.contacts.now) (c.in_err-first.ensures h email all)))
+pub returns-in_err-first : goal.returns-in_err-first
+returns-in_err-first c = λ email all.
+    ap listed c.from_residual.ensures ∙ plain_nobody c.args.answers.now (tally_of c.args.to.now).contact c.args.contacts.now c.in_err-first.ensures.value
 
-pub returns-then-are_answered-clause-entries : goal.returns-then-are_answered-clause-entries
-returns-then-are_answered-clause-entries c = λ h email all.
+pub returns-then-are_answered : goal.returns-then-are_answered
+returns-then-are_answered c = λ email all.
+    let h = c.args.answers.now in
     let to = (tally_of c.args.to.now).contact in
-    plain_none h to (plain_ones h c.args.contacts.now)
-    (sym (c.are_answered.ensures h email [] all (c.new-unchanged.ensures to email tt)) ∙ c.if-are_answered.true)
+    plain_answered h to (contacts_of c.args.contacts.now) (sym (answered_all h to c.args.contacts.now) ∙ sym c.are_answered.ensures ∙ c.if-are_answered.true)
 
-pub returns-clause-entries : goal.returns-clause-entries
-returns-clause-entries c = λ h email all.
+pub returns-then-not-fits : goal.returns-then-not-fits
+returns-then-not-fits c = λ email all.
+    let h = c.args.answers.now in
     let to = (tally_of c.args.to.now).contact in
-    let first = answered_contact c.in_ok-first.first.now in
-    let ones = plain_ones h c.args.contacts.now in
-    let some = some_first first ones (c.in_ok-first.ensures h email all) in
-    plain_some h to first some.0 ones (mapping_of c.plain_form.result) some.1
-    (sym (c.are_answered.ensures h email [] all (c.new-unchanged.ensures to email tt)) ∙ c.if-are_answered.false)
-    (c.plain_form.ensures.entry h email some.0 all (first_email h email c.args.contacts.now first some.0 all some.1) some.1)
+    let ts = c.args.contacts.now in
+    ap (λ x. x ∷ []) c.long_form.ensures
+    ∙ plain_formed h to email ts c.in_ok-first.first.now c.in_ok-first.ensures.value (sym (answered_all h to ts) ∙ sym c.are_answered.ensures ∙ c.if-are_answered.false) false
+    (ap (λ b. b && are_answered (plus h (short_form to ∷ [])) to (contacts_of ts)) (sym c.fits.ensures ∙ c.if-not-fits.true))
 
-pub returns-clause-plain : goal.returns-clause-plain
-returns-clause-plain c = λ h email all.
-    let first = answered_contact c.in_ok-first.first.now in
-    let some = some_first first (plain_ones h c.args.contacts.now) (c.in_ok-first.ensures h email all) in
-    (subst (λ e. IsPlain e (mapping_of c.plain_form.result)) (first_email h email c.args.contacts.now first some.0 all some.1) c.plain_form.ensures.plain, tt)
+pub returns-then-are_enough_for_all : goal.returns-then-are_enough_for_all
+returns-then-are_enough_for_all c = λ email all.
+    let h = c.args.answers.now in
+    let to = (tally_of c.args.to.now).contact in
+    let ts = c.args.contacts.now in
+    let short = c.change_name_by_email-short in
+    ap (λ x. x ∷ []) short.ensures
+    ∙ plain_tried h to email ts c.in_ok-first.first.now c.in_ok-first.ensures.value (sym (answered_all h to ts) ∙ sym c.are_answered.ensures ∙ c.if-are_answered.false) all
+    (sym c.fits.ensures ∙ c.if-not-fits.false) (mapping_of short.result) short.ensures c.new.result (c.new.ensures to email) true (sym c.are_enough_for_all.ensures ∙ c.if-are_enough_for_all.true)
+
+pub returns : goal.returns
+returns c = λ email all.
+    let h = c.args.answers.now in
+    let to = (tally_of c.args.to.now).contact in
+    let ts = c.args.contacts.now in
+    let short = c.change_name_by_email-short in
+    ap (λ x. x ∷ []) c.long_form-2.ensures
+    ∙ plain_tried h to email ts c.in_ok-first.first.now c.in_ok-first.ensures.value (sym (answered_all h to ts) ∙ sym c.are_answered.ensures ∙ c.if-are_answered.false) all
+    (sym c.fits.ensures ∙ c.if-not-fits.false) (mapping_of short.result) short.ensures c.new.result (c.new.ensures to email) false (sym c.are_enough_for_all.ensures ∙ c.if-are_enough_for_all.false)

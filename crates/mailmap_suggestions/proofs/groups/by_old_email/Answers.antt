@@ -1,14 +1,18 @@
+use Rattle.std.proofs.Common.{◌∙◌, ap, map, sym, take_all}
 use Rattle.std.proofs.lemmas.Result.{IfOk-weaker}
-use Rattle.mailmap_suggestions.proofs.Grouping.{parts_answered, parts_are, parts_have_one}
+use Rattle.std.proofs.lemmas.Simd.{map-map}
+use Rattle.mailmap_entries.specs.Folding.{folded}
+use Rattle.mailmap_contacts.specs.Answers.{tally_of}
+use Rattle.mailmap_suggestions.specs.GroupEntries.{contacts}
+use Rattle.mailmap_suggestions.specs.Grouping.{grouped, keyed_by, keyed_of, tallies_in}
+use Rattle.mailmap_suggestions.proofs.Grouping.{email_groups}
 use Rattle.mailmap_suggestions.proofs.groups.by_old_email.Goals as goal
 
-pub returns-clause-parts : goal.returns-clause-parts
-returns-clause-parts c = IfOk-weaker c.grouped.result _ _ (λ parts is. parts_are parts.items c.args.group.now is) c.grouped.ensures
-
-pub returns-clause-one_email : goal.returns-clause-one_email
-returns-clause-one_email c =
-    IfOk-weaker c.grouped.result _ _ (λ parts is. parts_have_one parts.items c.args.group.now is) c.grouped.ensures
-
-pub returns-clause-answered : goal.returns-clause-answered
-returns-clause-answered c = λ h all.
-    IfOk-weaker c.grouped.result _ _ (λ parts is. parts_answered parts.items c.args.group.now is h all) c.grouped.ensures
+pub returns : goal.returns
+returns c =
+    let group = c.args.group.now in
+    let keyed = ap (map keyed_of) c.deref.ensures.value ∙ c.loop-contact.invariant
+    ∙ ap (λ l. keyed_by (λ t. folded t.contact.email) (map tally_of l)) (take_all c.loop-contact.contact-index group c.loop-contact-test.false) in
+    IfOk-weaker c.grouped.result _ _
+    (λ parts is. sym (map-map contacts tallies_in parts.items) ∙ ap (map contacts) (is ∙ ap grouped keyed) ∙ email_groups (map tally_of group))
+    c.grouped.ensures

@@ -1,8 +1,8 @@
--- The groups of the contacts so far.
-use Rattle.std.proofs.Common.{take}
-use Rattle.mailmap_suggestions.specs.Grouping.{AreContactGroups, criterion_text, behind}
+-- The groups of the keys so far were taken.
+use Rattle.std.proofs.Common.{map, take}
+use Rattle.mailmap_suggestions.specs.Grouping.{keyed_of}
+use Rattle.mailmap_suggestions.proofs.Grouping.{AreTaken}
 use Rattle.mailmap_suggestions.proofs.groups.grouped.Given as goal
 
-abbrev pub invariant-loop-contact : goal.invariant-loop-contact
-invariant-loop-contact l =
-    AreContactGroups (criterion_text l.criterion) (behind (take l.contact-index l.contacts)) l.places l.groups.items
+abbrev pub invariant-loop-key : goal.invariant-loop-key
+invariant-loop-key l = AreTaken (map keyed_of l.keyed) (map keyed_of (take l.key-index l.keyed)) l.by_key l.groups.items

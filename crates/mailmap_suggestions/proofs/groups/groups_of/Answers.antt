@@ -1,16 +1,19 @@
-use Rattle.std.proofs.Common.{◌∙◌, ap, rules}
-use Rattle.std.proofs.lemmas.List.Elements.{recursion_from_All}
-use Rattle.mailmap_suggestions.specs.Answered.{IsRightFor}
-use Rattle.mailmap_suggestions.specs.Grouping.{grouped_by, criterion_text, behind}
-use Rattle.mailmap_suggestions.specs.declared.groups.Criterion.TheVariants.{Answer}
-use Rattle.mailmap_suggestions.proofs.Grouping.{found_answered, found_groups}
+use Rattle.std.proofs.Common.{◌≡◌, ◌∙◌, ap, filter, map, not, rules, sym}
+use Rattle.std.proofs.lemmas.Fn.{filter_same}
+use Rattle.mailmap_contacts.specs.Answers.{tally_of}
+use Rattle.mailmap_suggestions.specs.GroupEntries.{are_alike, contacts}
+use Rattle.mailmap_suggestions.specs.Grouping.{grouped, keyed_of, shared_by, tallies_in}
+use Rattle.mailmap_suggestions.proofs.Grouping.{shared_groups}
 use Rattle.mailmap_suggestions.proofs.groups.groups_of.Goals as goal
+use Rattle.mailmap_entries.proofs.Parts.{filter-map}
 
-pub returns-clause-groups : goal.returns-clause-groups
-returns-clause-groups c = λ h all. search (rules, found_groups, recursion_from_All)
-
-pub returns-clause-answered : goal.returns-clause-answered
-returns-clause-answered c = λ h all.
-    let contacts = c.args.answered.now in
-    let is = c.in_ok-groups.ensures ∙ ap (grouped_by (criterion_text (Answer c.args.shared))) (ap behind c.as_slice.ensures.value ∙ c.in_ok-sharing.ensures) in
-    found_answered c.args.shared h contacts (recursion_from_All (IsRightFor h) contacts all) c.in_ok-groups.groups.items c.drop_alike.new.groups.items is c.drop_alike.ensures
+pub returns : goal.returns
+returns c =
+    let h = c.args.answers.now in
+    let ts = map tally_of c.args.contacts.now in
+    let all = c.in_ok-groups.groups.items in
+    let kept : c.retain.new.self.items ≡ filter (λ g. not (are_alike h (contacts (tallies_in g)))) all =
+    filter_same _ (λ g. not (are_alike h (contacts (tallies_in g)))) _ (λ g b f' k. search rules) _ _ c.retain.ensures.filtered in
+    ap (map tallies_in) kept ∙ sym (filter-map (λ g. not (are_alike h (contacts g))) tallies_in all)
+    ∙ ap (filter (λ g. not (are_alike h (contacts g))))
+    (c.in_ok-groups.ensures ∙ ap (λ l. grouped (map keyed_of l)) c.deref.ensures.value ∙ ap grouped c.in_ok-sharing.ensures ∙ shared_groups (shared_by c.args.shared) h ts)

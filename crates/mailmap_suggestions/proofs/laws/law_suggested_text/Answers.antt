@@ -1,7 +1,7 @@
 use Rattle.std.proofs.Common.{rules}
 use Rattle.mailmap_snapshot.proofs.WritableLines.{all_read}
-use Rattle.mailmap_suggestions.proofs.Parsed.{reviewed_said, lines_writable, suggested_said}
-use Rattle.mailmap_suggestions.proofs.Printed.{suggestions_said}
+use Rattle.mailmap_suggestions.proofs.United.{reviewed_said, lines_writable, suggested_said}
+use Rattle.mailmap_suggestions.proofs.Forms.{suggestions_said}
 use Rattle.mailmap_suggestions.proofs.laws.law_suggested_text.Goals as goal
 
 pub returns : goal.returns

@@ -1,27 +1,28 @@
-use Rattle.std.proofs.Common.{ap, map, refl}
+use Rattle.std.proofs.Common.{ap, flat_map, map}
 use Rattle.std.proofs.lemmas.List.{drop_all, drop_more}
 use Rattle.std.proofs.lemmas.Result.{on_err_weaker, on_ok_weaker}
 use Rattle.mailmap_entries.proofs.Results.{on_err}
-use Rattle.command_line.proofs.Printed.{printed_all, printed_broken, printed_first_broken, printed_more, printed_none}
+use Rattle.command_line.proofs.Printed.{item-broken, item-printed, items-printed, underway-broken, underway-none, underway-whole}
 use Rattle.shortlog_command.specs.Answers.{answer_counted}
+use Rattle.shortlog_command.specs.Shortlog.{counted_text}
 use Rattle.shortlog_command.proofs.shortlog.print_lines.Goals as goal
 
-pub loop-tally-init : goal.loop-tally-init
-loop-tally-init g c = printed_none refl refl
+pub loop-answer-init : goal.loop-answer-init
+loop-answer-init g c = underway-none
 
-pub loop-tally-preserved : goal.loop-tally-preserved
-loop-tally-preserved g c =
-    printed_more c.loop-tally.invariant (ap (map answer_counted) (drop_more c.args.tallies.now c.loop-tally.tally-index _ c.loop-tally-test.true)) refl c.in_ok-print_line.ensures.ok
+pub loop-answer-preserved : goal.loop-answer-preserved
+loop-answer-preserved g c = item-printed counted_text c.loop-answer.printer
+    (ap (map answer_counted) (drop_more c.args.answers.now c.loop-answer.answer-index _ c.loop-answer-test.true)) c.loop-answer.invariant (rw c.line_parts.ensures at c.in_ok-print_pieces.ensures.ok)
 
-pub returns-in_err-print_line-clause-err : goal.returns-in_err-print_line-clause-err
-returns-in_err-print_line-clause-err g c =
-    on_err c.from_residual.result _
-    (printed_broken c.loop-tally.invariant _ (ap (map answer_counted) (drop_more c.args.tallies.now c.loop-tally.tally-index _ c.loop-tally-test.true)) refl c.in_err-print_line.ensures.err)
+pub returns-in_err-print_pieces-clause-err : goal.returns-in_err-print_pieces-clause-err
+returns-in_err-print_pieces-clause-err g c = on_err c.from_residual.result _ (item-broken counted_text _ c.loop-answer.printer
+    (ap (map answer_counted) (drop_more c.args.answers.now c.loop-answer.answer-index _ c.loop-answer-test.true)) c.loop-answer.invariant (rw c.line_parts.ensures at c.in_err-print_pieces.ensures.err))
 
 pub returns-clause-ok : goal.returns-clause-ok
 returns-clause-ok g c =
-    let none = drop_all c.loop-tally.tally-index c.args.tallies.now c.loop-tally-test.false in
-    on_ok_weaker c.flush.result (printed_all c.loop-tally.invariant _ (ap (map answer_counted) none)) c.flush.ensures.ok
+    let none = ap (map answer_counted) (drop_all c.loop-answer.answer-index c.args.answers.now c.loop-answer-test.false) in
+    on_ok_weaker c.flush.result (underway-whole _ (items-printed counted_text c.loop-answer.printer none c.loop-answer.invariant)) c.flush.ensures.ok
 
 pub returns-clause-err : goal.returns-clause-err
-returns-clause-err g c = on_err_weaker c.flush.result (printed_first_broken c.loop-tally.invariant _) c.flush.ensures.err
+returns-clause-err g c = on_err_weaker c.flush.result
+    (underway-broken _ c.loop-answer.printer (flat_map counted_text (map answer_counted _)) c.loop-answer.invariant) c.flush.ensures.err

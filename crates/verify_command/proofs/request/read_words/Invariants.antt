@@ -5,8 +5,7 @@ use Rattle.verify_command.specs.Arguments.{asked, asked_in, wanted_of}
 use Rattle.verify_command.proofs.request.read_words.Given as goal
 
 abbrev pub invariant-loop-argument : goal.invariant-loop-argument
-invariant-loop-argument l =
-    (into_iter_len l.words ≡ length (into_iter_items l.words))
+invariant-loop-argument l = (into_iter_len l.words ≡ length (into_iter_items l.words))
     × (asked (map (λ w. w.items) (into_iter_items l.initial.words)) ≡ asked_in (map (λ w. w.items) (into_iter_items l.words)) (wanted_of l.request) None)
 
 abbrev pub decreases-loop-argument : goal.decreases-loop-argument

@@ -1,6 +1,6 @@
 use Rattle.std.proofs.Common.{◌≡◌, ◌++◌, ◌∙◌, ◌<◌, ◌≤◌, ℕ, List, ap, arith, codes, length, length-take-le, sym, take}
 use Rattle.std.proofs.lemmas.Bool.{cond-false, cond-true, le-ltb, lt-ltb}
-use Rattle.verify_command.specs.Shortened.{front_len, shortened}
+use Rattle.verify_command.specs.Report.{front_len, shortened}
 use Rattle.verify_command.proofs.shortened.shortened.Goals as goal
 
 whole : (text : List ℕ) → length text ≤ 256 → text ≡ shortened text

@@ -1,14 +1,9 @@
-use Rattle.std.proofs.Common.{◌≡◌, filter, not, subst}
-use Rattle.mailmap_findings.specs.Needs.{contact_needs}
-use Rattle.mailmap_findings.proofs.ContactNeeds.{no_contact_needs}
+use Rattle.std.proofs.Common.{sym}
+use Rattle.mailmap_findings.proofs.ContactNeeds.{filter_none}
 use Rattle.mailmap_findings.proofs.needs.Needs.add_line.Goals as goal
 
 pub returns-in-Absent-clause-left : goal.returns-in-Absent-clause-left
-returns-in-Absent-clause-left c =
-    let s = c.args.self.now in
-    subst (λ k. s.left ≡ filter (λ p. not (contact_needs s.kept k p)) s.left) c.in-Absent.ensures (no_contact_needs s.kept s.left)
+returns-in-Absent-clause-left c = rw (← c.in-Absent.ensures) (sym (filter_none c.args.self.now.left))
 
 pub returns-in-Unclosed-clause-left : goal.returns-in-Unclosed-clause-left
-returns-in-Unclosed-clause-left c =
-    let s = c.args.self.now in
-    subst (λ k. s.left ≡ filter (λ p. not (contact_needs s.kept k p)) s.left) c.in-Unclosed.ensures (no_contact_needs s.kept s.left)
+returns-in-Unclosed-clause-left c = rw (← c.in-Unclosed.ensures) (sym (filter_none c.args.self.now.left))

@@ -5,7 +5,7 @@ use Rattle.std.proofs.lemmas.Iterator.Adapters.{YieldsList-from_vec, fact_from_c
 use Rattle.mailmap_entries.proofs.Ascending.{same_keys}
 use Rattle.mailmap_redundancy.specs.Redundancy.{AreEffective, position_cmp}
 use Rattle.mailmap_redundancy.proofs.Positions.{positions_exact, positions_total}
-use Rattle.mailmap_findings.proofs.BufferLines.{kept_ascend}
+use Rattle.mailmap_findings.proofs.Lines.{kept_ascend}
 use Rattle.mailmap_findings.proofs.needs.Needs.new.Goals as goal
 
 pub returns-clause-left : goal.returns-clause-left

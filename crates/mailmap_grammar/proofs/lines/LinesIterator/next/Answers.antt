@@ -1,30 +1,28 @@
-use Rattle.std.proofs.Common.{rules, arith, ◌≡◌, ◌+◌, ◌∙◌, ap, sym, length}
-use Rattle.mailmap_grammar.specs.Lines.{line_reader, reading_by, readings_from}
-use Rattle.mailmap_grammar.proofs.Readings.{readings_from-some, readings_from-none, readings_from-nil}
+use Rattle.std.proofs.Common.{rules, arith, ◌∙◌, ap, length}
+use Rattle.mailmap_grammar.specs.Lines.{line_reader}
+use Rattle.mailmap_grammar.proofs.Readings.{after_skipped, nothing_left, readings_from-some, readings_from-none}
 use Rattle.mailmap_grammar.proofs.lines.LinesIterator.next.Goals as goal
 
 pub loop-text-preserved : goal.loop-text-preserved
 loop-text-preserved c =
-    let read = reading_by (line_reader c.loop-text.self-inside.strictness) in
-    let before = c.loop-text.self-inside.line_number in
-    let after : before + 1 + 1 + c.skip_comments_and_blanks-in-Some.result ≡ before + 1 + c.skip_comments_and_blanks-in-Some.result + 1 = omega arith in (
-      omega (arith, ap length c.in-Some.ensures.steps, c.skip_comments_and_blanks-in-Some.ensures.counted),
-      ap (λ n. readings_from read n c.skip_comments_and_blanks-in-Some.new.lines) (sym after)
-          ∙ sym (c.skip_comments_and_blanks-in-Some.ensures.none_read (line_reader c.loop-text.self-inside.strictness) (before + 1 + 1))
-          ∙ readings_from-none _ _ _ _ _ _ c.loop-text.invariant.1 c.in-Some.ensures.steps c.in_default-read_line.ensures,
+    let skipped = c.skip_comments_and_blanks-count.ensures in
+    let step = rw c.in_ok-text.was at c.first_line.ensures in
+    let left = after_skipped (line_reader c.loop-text.self-inside.strictness) c.loop-text.self-inside.line_number c.args.self.now skipped c.loop-text.invariant.1 in (
+      omega (arith, c.loop-text.invariant.0, skipped.within, step.1),
+      readings_from-none _ _ _ _ _ _ left step.0 c.in_default.ensures,
     )
 
-pub returns-in-Some-read_line-clause-steps : goal.returns-in-Some-read_line-clause-steps
-returns-in-Some-read_line-clause-steps c =
-    readings_from-some _ _ _ _ _ _ c.loop-text.invariant.1 c.in-Some.ensures.steps _ c.in-Some-read_line.ensures
+pub returns-in-Some-clause-steps : goal.returns-in-Some-clause-steps
+returns-in-Some-clause-steps c =
+    let step = rw c.in_ok-text.was at c.first_line.ensures in
+    let left = after_skipped (line_reader c.loop-text.self-inside.strictness) c.loop-text.self-inside.line_number c.args.self.now c.skip_comments_and_blanks-count.ensures c.loop-text.invariant.1 in
+    readings_from-some _ _ _ _ _ _ left step.0 _ c.in-Some.ensures
 
-pub returns-in-Some-read_line-clause-goes : goal.returns-in-Some-read_line-clause-goes
-returns-in-Some-read_line-clause-goes c =
-    let e = ap length (readings_from-some _ _ _ _ _ _ c.loop-text.invariant.1 c.in-Some.ensures.steps _ c.in-Some-read_line.ensures) in
-    search rules
+pub returns-in-Some-clause-goes : goal.returns-in-Some-clause-goes
+returns-in-Some-clause-goes c = let e = ap length (returns-in-Some-clause-steps c) in search rules
 
-pub returns-clause-steps : goal.returns-clause-steps
-returns-clause-steps c = (
-  sym c.loop-text.invariant.1 ∙ ap (readings_from _ _) c.in_default.ensures.steps.0 ∙ readings_from-nil _ _,
-  ap (readings_from _ _) c.in_default.ensures.steps.1 ∙ readings_from-nil _ _,
-)
+pub returns-in_err-text-clause-steps : goal.returns-in_err-text-clause-steps
+returns-in_err-text-clause-steps c =
+    let left = after_skipped (line_reader c.loop-text.self-inside.strictness) c.loop-text.self-inside.line_number c.args.self.now c.skip_comments_and_blanks-count.ensures c.loop-text.invariant.1 in
+    let over = nothing_left _ _ _ _ left (rw c.in_err-text.was at c.first_line.ensures) in
+    rw c.from_residual.ensures (over, c.loop-text.invariant.1 ∙ over)

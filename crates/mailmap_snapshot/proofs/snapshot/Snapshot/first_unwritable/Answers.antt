@@ -1,36 +1,20 @@
-use Rattle.std.proofs.Common.{◌≡◌, true, ◌∙◌, ap, arith, length, length-drop, take_all}
-use Rattle.std.proofs.lemmas.List.Elements.{All-more}
-use Rattle.std.proofs.lemmas.Option.{get_or_from_slice_get}
+use Rattle.std.proofs.Common.{◌<◌, ℕ, List, Option, None, Some, MatchOption, All, arith, length, rules}
+use Rattle.std.specs.List.{AllWithin, HoldsAt}
+use Rattle.std.proofs.lemmas.Iterator.{IsFirst-from_position}
+use Rattle.std.proofs.lemmas.Iterator.Consumers.{YieldsList-from_first}
+use Rattle.mailmap_entries.specs.Entries.{Mapping, mapping_of}
 use Rattle.mailmap_grammar.specs.CanonicalText.{IsWritable}
-use Rattle.mailmap_entries.specs.Entries.{mapping_of}
-use Rattle.mailmap_snapshot.proofs.Remaining.{first_left, next_left, within}
+use Rattle.mailmap_snapshot.specs.Writing.{IsFirstUnwritable}
 use Rattle.mailmap_snapshot.proofs.snapshot.Snapshot.first_unwritable.Goals as goal
 
-pub returns-then-not-is_writable-clause-index : goal.returns-then-not-is_writable-clause-index
-returns-then-not-is_writable-clause-index c =
-    record {
-      before = c.loop-entry.invariant.before;
-      entry = mapping_of c.in-Some.entry;
-      here = first_left c.loop-entry.index c.args.self.now _ c.next.new.self (c.loop-entry.invariant.left ∙ c.in-Some.ensures.steps);
-      unwritable = λ writable. let is = c.is_writable.ensures.1 writable in cc (is, c.if-not-is_writable.true);
-    }
-
-pub loop-entry-preserved : goal.loop-entry-preserved
-loop-entry-preserved c =
-    let es = c.args.self.now in
-    let i = c.loop-entry.index in
-    let e = mapping_of c.in-Some.entry in
-    let left = c.loop-entry.invariant.left ∙ c.in-Some.ensures.steps in
-    let writable : IsWritable e = c.is_writable.ensures.0 (let is : c.is_writable.result ≡ true = cc (c.if-not-is_writable.false) in is) in
-    record {
-      left = next_left i es e c.next.new.self left;
-      before = All-more IsWritable es i e (within i es e c.next.new.self left) c.loop-entry.invariant.before
-          (rw (get_or_from_slice_get es i e e (first_left i es e c.next.new.self left)) writable);
-    }
+by_position : (es : List Mapping) (r : Option ℕ)
+    → MatchOption r (AllWithin IsWritable es 0 (length es)) (λ i. (i < length es) × HoldsAt (λ e. ¬ IsWritable e) es i × AllWithin IsWritable es 0 i)
+    → MatchOption r (All IsWritable es) (IsFirstUnwritable es)
+by_position es None all = λ k d within. all k d (omega arith) within
+by_position es (Some i) (within, unwritable, before) = record { before = before; within = within; unwritable = unwritable }
 
 pub returns-clause-index : goal.returns-clause-index
 returns-clause-index c =
-    let es = c.args.self.now in
-    let i = c.loop-entry.index in
-    let none = ap length (c.loop-entry.invariant.left ∙ c.in-None.ensures.steps.0) in
-    rw (take_all i es (omega (arith, none, length-drop i es))) at c.loop-entry.invariant.before
+    by_position c.args.self.now c.position.result (IsFirst-from_position _ _ c.position.result (λ e. ¬ IsWritable e) IsWritable c.position.ensures.ran
+    (YieldsList-from_first mapping_of (λ s. s) c.args.self.now c.iter.ensures.listing)
+    (λ x q called. search rules) (λ x q called. (search rules, search rules)))

@@ -4,4 +4,4 @@ use Rattle.mailmap_tables.proofs.Grouped.{groups_listing}
 use Rattle.mailmap_snapshot.proofs.snapshot.Snapshot.iter.Goals as goal
 
 pub returns-clause-own : goal.returns-clause-own
-returns-clause-own c = subst IsListing c.self.view_is (groups_listing _ c.self.invariant.groups)
+returns-clause-own c = subst IsListing c.self.view_is (groups_listing _ c.self.invariant)

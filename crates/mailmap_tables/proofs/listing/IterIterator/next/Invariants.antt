@@ -1,7 +1,6 @@
 use Rattle.std.proofs.Common.{◌≡◌, ◌-◌, length}
 use Rattle.std.specs.List.{AllByRecursion}
-use Rattle.mailmap_tables.specs.Remaining.{left_to_list}
-use Rattle.mailmap_tables.specs.Pool.{NameInPool}
+use Rattle.mailmap_tables.specs.Pool.{left_to_list, NameInPool}
 use Rattle.mailmap_tables.proofs.listing.IterIterator.next.Given as goal
 
 abbrev pub invariant-loop-self : goal.invariant-loop-self

@@ -5,7 +5,6 @@ use Rattle.verify_command.specs.Arguments.{wanted_of, with_paths}
 use Rattle.verify_command.proofs.asked.Request.with_paths.Given as goal
 
 abbrev pub invariant-loop-word : goal.invariant-loop-word
-invariant-loop-word l =
-    (into_iter_len l.word-iterator ≡ length (into_iter_items l.word-iterator))
+invariant-loop-word l = (into_iter_len l.word-iterator ≡ length (into_iter_items l.word-iterator))
     × (with_paths (wanted_of l.initial.self) (map (λ w. w.items) (into_iter_items l.fn.words))
     ≡ with_paths (wanted_of l.self) (map (λ w. w.items) (into_iter_items l.word-iterator)))

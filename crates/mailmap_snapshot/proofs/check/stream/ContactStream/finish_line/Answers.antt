@@ -1,4 +1,4 @@
-use Rattle.std.proofs.Common.{◌≡◌, ◌++◌, ◌∷◌, ◌∙◌, [], List, ℕ, ap, append-nil, refl, sym}
+use Rattle.std.proofs.Common.{◌≡◌, ◌++◌, ◌∙◌, [], ap, append-nil, refl, sym}
 use Rattle.std.proofs.lemmas.Bool.{eqb-false, eqb-true}
 use Rattle.std.proofs.lemmas.List.{nil_from_length}
 use Rattle.mailmap_snapshot.specs.Contacts.{answer, answers}
@@ -10,7 +10,7 @@ pub returns-then-is_empty-clause-ok : goal.returns-then-is_empty-clause-ok
 returns-then-is_empty-clause-ok c =
     let text = c.args.text.now.items in
     let none = no_answers c.self.inside.snapshot c.self.inside.kept.items (sym c.self.inside.kept.ok.0 ∙ eqb-true _ _ (sym c.if-is_empty.ensures)) in
-    sym (append-nil text) ∙ ap (λ l. text ++ l) (sym none) ∙ ap (λ (s : Stream). text ++ answers s.mappings s.kept) c.self.view_is
+    cc (none, append-nil text, ap (λ (s : Stream). answers s.mappings s.kept) c.self.view_is)
 
 pub returns-then-is_own_answer-clause-ok : goal.returns-then-is_own_answer-clause-ok
 returns-then-is_own_answer-clause-ok c =
@@ -20,16 +20,4 @@ returns-then-is_own_answer-clause-ok c =
     let made = open_answers snapshot kept c.self.invariant.1 (λ e. eqb-false _ _ (sym c.if-is_empty.ensures) (c.self.inside.kept.ok.0 ∙ e)) in
     let own : answer snapshot kept ≡ kept = ap (answer snapshot) (sym c.as_slice.ensures.value) ∙ c.if-is_own_answer.ensures refl snapshot ∙ c.as_slice.ensures.value in
     let none : text ≡ [] = nil_from_length text (sym c.args.text.now.ok.0 ∙ eqb-true _ _ (sym c.if-is_empty-2.ensures)) in
-    ap (λ v. v.items) c.swap.ensures.y_after ∙ c.in_ok-push.ensures.items
-    ∙ ap (λ l. l ++ 10 ∷ []) (sym own)
-    ∙ sym made
-    ∙ ap (λ l. l ++ answers snapshot kept) (sym none)
-    ∙ ap (λ (s : Stream). text ++ answers s.mappings s.kept) c.self.view_is
-
-pub returns-clause-ok : goal.returns-clause-ok
-returns-clause-ok c =
-    let text = c.args.text.now.items in
-    let made = open_answers c.self.inside.snapshot c.self.inside.kept.items c.self.invariant.1 (λ e. eqb-false _ _ (sym c.if-is_empty.ensures) (c.self.inside.kept.ok.0 ∙ e)) in
-    c.in_ok-push_one.ensures.ok
-    ∙ ap (λ (l : List ℕ). text ++ (answer c.self.inside.snapshot l ++ 10 ∷ [])) c.as_slice-2.ensures.value
-    ∙ ap (λ l. text ++ l) (sym made) ∙ ap (λ (s : Stream). text ++ answers s.mappings s.kept) c.self.view_is
+    cc (made, own, ap (λ v. v.items) c.swap.ensures.y_after, c.in_ok-push.ensures.items, ap (λ l. l ++ answers snapshot kept) none, ap (λ (s : Stream). answers s.mappings s.kept) c.self.view_is)

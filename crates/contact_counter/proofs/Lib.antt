@@ -1,0 +1,5 @@
+pub mod Counting
+pub mod Entries
+pub mod Steps
+pub mod Sums
+pub mod Tallied

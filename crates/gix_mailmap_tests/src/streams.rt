@@ -1,0 +1,227 @@
+//! The programs over a file in memory, with readers and writers that move few bytes at a time, fail or are interrupted.
+//!
+//! What one call of these does is a byte, its turn. A digit moves so many bytes at most, and `*` all. Other letters
+//! fail: `i` is interrupted, `b` would block, `m` is out of memory, and `x` is broken. After the last turn, all is moved.
+ghost use Rattle.std.specs.Prelude.{◌≤◌, IfOk};
+
+use crate::shelf::Shelf;
+use command_line::failure::Failure;
+use std::alloc::Global;
+use std::io::{Error, ErrorKind, Read, Write};
+use std::process::Abort;
+use std::{cmp, io};
+use verify_command::failure::TaskFailure;
+
+/// Takes the next turn: returns how many of `len` bytes it moves.
+fn moved(turns: &mut &[u8], len: usize) -> io::Result<usize>
+    ensures { IfOk result (λ count. count ≤ len) }
+{
+    let Some((turn, left)) = turns.split_first() else {
+        return Ok(len);
+    };
+    *turns = left;
+    match turn {
+        b'*' => Ok(len),
+        b'0'..=b'9' => Ok(cmp::min(usize::from(*turn - b'0'), len)),
+        b'i' => Err(Error::from(ErrorKind::Interrupted)),
+        b'b' => Err(Error::from(ErrorKind::WouldBlock)),
+        b'm' => Err(Error::from(ErrorKind::OutOfMemory)),
+        _ => Err(Error::from(ErrorKind::BrokenPipe)),
+    }
+}
+
+#[derive(Drop)]
+struct Source<'a> {
+    bytes: &'a [u8],
+    turns: &'a [u8],
+}
+
+impl Read for Source<'_> {
+    fn read(&mut self, buf: &mut [u8]) -> io::Result<usize> {
+        let bytes = self.bytes;
+        let count = moved(&mut self.turns, cmp::min(bytes.len(), buf.len()))?;
+        buf[..count].copy_from_slice(&bytes[..count]);
+        self.bytes = &bytes[count..];
+        Ok(count)
+    }
+}
+
+/// Writes and flushes have turns of their own. `flushed` counts the bytes that the last flush found.
+#[derive(Drop)]
+struct Sink<'a> {
+    taken: Vec<u8>,
+    writes: &'a [u8],
+    flushes: &'a [u8],
+    flushed: usize,
+}
+
+impl Write for Sink<'_> {
+    fn write(&mut self, buf: &[u8]) -> io::Result<usize> {
+        let count = moved(&mut self.writes, buf.len())?;
+        self.taken.extend_from_slice(&buf[..count])?;
+        Ok(count)
+    }
+
+    fn flush(&mut self) -> io::Result<()> {
+        moved(&mut self.flushes, 0)?;
+        self.flushed = self.taken.len();
+        Ok(())
+    }
+}
+
+const SHELF: Shelf = Shelf {
+    bytes: b"N <a@x>\n",
+};
+
+type Ended = Result<(), Failure>;
+
+const DONE: Ended = Ok(());
+
+const BROKEN: Ended = Err(Failure::Input {
+    cause: ErrorKind::BrokenPipe,
+});
+
+const BLOCKED: Ended = Err(Failure::Input {
+    cause: ErrorKind::WouldBlock,
+});
+
+const UNWRITTEN: Ended = Err(Failure::Output);
+
+/// What is found in the input as a mailmap.
+const FOUND: &str = "\
+<stdin>:1: error: no email in brackets [no-email]
+<stdin>:3: error: no email in brackets [no-email]
+";
+
+/// The explanations of the lines that ended.
+const EXPLAINED: &str = "-- is no contact\nb <A@x> is N <a@x> by map:1\n";
+
+/// Those of all lines.
+const ALL_EXPLAINED: &str = "\
+-- is no contact
+b <A@x> is N <a@x> by map:1
+p is no contact
+";
+
+/// What is found in it as contacts, beside the file.
+const BESIDE: &str = "\
+<stdin>:1: error: no contact [no-contact]
+<stdin>:2: warning: git answers N <A@x> [git-answers]
+<stdin>:3: error: no contact [no-contact]
+";
+
+const SUGGESTED: &str = "# 1 N <a@x>\n# 1 N <A@x> by git\nN <a@x> <A@x>\n\n";
+
+/// Runs the program that the first word names. Arguments that it refuses fail as if memory ran out.
+fn performed<R: Read, W: Write>(
+    alloc: Global,
+    words: &str,
+    input: &mut R,
+    output: &mut W,
+) -> Ended {
+    let mut arguments = Vec::new(alloc);
+    for word in words.split(' ') {
+        arguments.push(Vec::from_slice(alloc, word.as_bytes())?)?;
+    }
+    if words.starts_with("check") {
+        let task = check_command::task::task_of(&arguments);
+        return check_command::task::perform(&SHELF, alloc, task, input, output);
+    }
+    if words.starts_with("shortlog") {
+        let Ok(task) = shortlog_command::task::task_of(&arguments) else {
+            return Err(Failure::Memory);
+        };
+        return shortlog_command::task::perform(&SHELF, alloc, task, input, output);
+    }
+    let Ok(request) = verify_command::task::request_of(alloc, arguments) else {
+        return Err(Failure::Memory);
+    };
+    match verify_command::task::perform(&SHELF, alloc, &request, input, output) {
+        Ok(_) => Ok(()),
+        Err(TaskFailure::Run(failure)) => Err(failure),
+        Err(_) => Err(Failure::Memory),
+    }
+}
+
+/// Asserts how a run over three lines ends and what it writes. All of that is flushed, unless the run fails.
+fn assert_run(
+    rt: &(impl Abort + AllocGlobal),
+    words: &str,
+    turns: [&[u8]; 3],
+    ended: Ended,
+    want: &str,
+) {
+    let [reads, writes, flushes] = turns;
+    let mut input = Source {
+        bytes: b"--\nb <A@x>\np",
+        turns: reads,
+    };
+    let mut output = Sink {
+        taken: Vec::new(rt.alloc()),
+        writes,
+        flushes,
+        flushed: 0,
+    };
+    let end = performed(rt.alloc(), words, &mut input, &mut output);
+    assert_eq!(rt; end, ended, "{words}");
+    assert_eq!(rt; output.taken.as_slice(), want.as_bytes(), "{words}");
+    let left = output.taken.len() != output.flushed;
+    assert!(rt; end.is_err() || !left, "{words}");
+}
+
+/// An interrupted read is repeated, however often, one that would block is not, and nothing is read after the end.
+/// Before a failure, all lines that ended are answered or explained, if these come in turn.
+#[test]
+fn reads_can_be_short_interrupted_or_fail(rt: HostRuntime) {
+    static ROWS: [(&str, &[u8], Ended, &str); 16] = [
+        ("check", b"m", Err(Failure::Memory), ""),
+        ("check", b"*0x", DONE, "b <A@x>\np\n"),
+        ("check", b"i1i", DONE, "b <A@x>\np\n"),
+        ("check map", b"6i", DONE, "--\nN <a@x>\np\n"),
+        ("check map", b"5ib", BLOCKED, "--\n"),
+        ("check map", &[b'i'; 5_000], DONE, "--\nN <a@x>\np\n"),
+        ("check --compact map", b"x", DONE, " N <a@x>\n"),
+        ("check --compact", b"x", BROKEN, ""),
+        ("verify --prune", b"1i", DONE, "--\nb <A@x>\np"),
+        ("verify --explain map", b"*ib", BLOCKED, EXPLAINED),
+        ("verify --contacts - map", b"11i", DONE, BESIDE),
+        ("verify --suggest - map", b"1i", DONE, SUGGESTED),
+        ("shortlog map", b"1111111111", DONE, "     1\tN\n"),
+        ("shortlog map", b"8i", DONE, "     1\tN\n"),
+        ("shortlog map", b"5b", BLOCKED, ""),
+        ("shortlog map", b"*ib", BLOCKED, ""),
+    ];
+    for (words, reads, ended, want) in &ROWS {
+        assert_run(&rt, words, [*reads, b"", b""], *ended, want);
+    }
+}
+
+/// A writer that takes no more, or can't be flushed, ends the run, and a prefix of the output was written. An
+/// interrupted write is repeated. Answers and explanations are flushed before more is read.
+#[test]
+fn writes_can_be_short_interrupted_or_fail(rt: HostRuntime) {
+    static ROWS: [(&str, &[u8], &[u8], Ended, &str); 19] = [
+        ("check", b"30", b"", UNWRITTEN, "b <"),
+        ("check", b"", b"x", UNWRITTEN, "b <A@x>\np\n"),
+        ("check", b"1i2", b"", DONE, "b <A@x>\np\n"),
+        ("check map", b"", b"x", UNWRITTEN, "--\nN <a@x>\n"),
+        ("check map", b"11i", b"", DONE, "--\nN <a@x>\np\n"),
+        ("check map", &[b'i'; 5_000], b"", DONE, "--\nN <a@x>\np\n"),
+        ("check --compact map", b"", b"x", UNWRITTEN, " N <a@x>\n"),
+        ("verify map", b"", b"x", UNWRITTEN, ""),
+        ("verify", b"1", b"", DONE, FOUND),
+        ("verify --prune", b"20", b"", UNWRITTEN, "--"),
+        ("verify --prune", b"", b"x", UNWRITTEN, "--\nb <A@x>\np"),
+        ("verify --prune", b"12", b"", DONE, "--\nb <A@x>\np"),
+        ("verify --explain map", b"", b"x", UNWRITTEN, EXPLAINED),
+        ("verify --explain map", b"*x", b"", UNWRITTEN, EXPLAINED),
+        ("verify --explain map", b"1i", b"", DONE, ALL_EXPLAINED),
+        ("verify --contacts - map", b"1", b"", DONE, BESIDE),
+        ("verify --suggest - map", b"1", b"", DONE, SUGGESTED),
+        ("shortlog map", b"111", b"", DONE, "     1\tN\n"),
+        ("shortlog map", b"", b"x", UNWRITTEN, "     1\tN\n"),
+    ];
+    for (words, writes, flushes, ended, want) in &ROWS {
+        assert_run(&rt, words, [b"", *writes, *flushes], *ended, want);
+    }
+}

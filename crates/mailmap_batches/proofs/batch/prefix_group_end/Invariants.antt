@@ -1,8 +1,0 @@
-use Rattle.std.proofs.Common.{◌-◌, ◌<◌, ◌≤◌, length}
-use Rattle.mailmap_batches.proofs.batch.prefix_group_end.Given as goal
-
-abbrev pub invariant-loop-end : goal.invariant-loop-end
-invariant-loop-end l = record { after : l.start < l.end; within : l.end ≤ length l.prefixed }
-
-abbrev pub decreases-loop-end : goal.decreases-loop-end
-decreases-loop-end l = length l.prefixed - l.end

@@ -1,9 +1,0 @@
-use Rattle.std.proofs.Common.{refl}
-use Rattle.mailmap_grammar.proofs.SplitOnce.{split_once-none, split_once-some}
-use Rattle.mailmap_findings.proofs.git.entries.up_to_zero.Goals as goal
-
-pub returns-in-None : goal.returns-in-None
-returns-in-None c = rw (split_once-none 0 c.args.part.now c.in-None.ensures) refl
-
-pub returns-in-Some : goal.returns-in-Some
-returns-in-Some c = rw (split_once-some 0 c.args.part.now c.in-Some.end c.in-Some.ensures) refl

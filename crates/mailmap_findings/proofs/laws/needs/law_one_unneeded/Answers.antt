@@ -1,5 +1,0 @@
-use Rattle.mailmap_findings.proofs.Answered.{one_unneeded, some_unneeded}
-use Rattle.mailmap_findings.proofs.laws.needs.law_one_unneeded.Goals as goal
-
-pub returns : goal.returns
-returns c = record { some = some_unneeded; one = one_unneeded }

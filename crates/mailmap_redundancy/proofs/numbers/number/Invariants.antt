@@ -1,5 +1,0 @@
-use Rattle.mailmap_redundancy.proofs.Numbered.{IsWalk}
-use Rattle.mailmap_redundancy.proofs.numbers.number.Given as goal
-
-abbrev pub invariant-loop-at : goal.invariant-loop-at
-invariant-loop-at l = IsWalk l.entries l.at-items l.at-index l.keys.keys.items l.keys.email l.rows

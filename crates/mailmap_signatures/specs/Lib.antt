@@ -1,3 +1,0 @@
-pub use Rattle.mailmap_entries.specs.Folding
-pub mod Times
-pub mod SignatureFields

@@ -1,0 +1,13 @@
+-- The part is read up to here, and its whole lines are answered.
+use Rattle.std.proofs.Common.{length, ◌-◌}
+use Rattle.mailmap_snapshot.specs.Streams.{AreCachedAnswers, HasRead}
+use Rattle.mailmap_snapshot.proofs.check.stream.push_lines.Given as goal
+
+abbrev pub invariant-loop-taken : goal.invariant-loop-taken
+invariant-loop-taken l = record {
+  has_read : HasRead l.snapshot l.fn.kept.items l.part l.fn.text.items l.taken l.kept.items l.text.items;
+  cached : AreCachedAnswers l.snapshot l.cache;
+}
+
+abbrev pub decreases-loop-taken : goal.decreases-loop-taken
+decreases-loop-taken l = length l.part - l.taken

@@ -1,0 +1,168 @@
+//! What this library and git answer to contacts.
+ghost use Rattle.std.specs.Prelude.{◌≡◌, IfOk, List, is_some, map, unwrap_or};
+ghost use Rattle.std.specs.List.{list_all};
+ghost use Rattle.std.specs.Option.{option_map};
+ghost use Rattle.mailmap_entries.specs.Folding.{Text, folded};
+ghost use Rattle.mailmap_entries.specs.Semantics.{last_fields, no_fields, spelling};
+ghost use Rattle.mailmap_redundancy.specs.Numbers.{fields_of};
+ghost use Rattle.mailmap_contacts.specs.Answers.{tally_of};
+ghost use Rattle.mailmap_contacts.specs.Contacts.{answered, contacts_from, tallied};
+ghost use Rattle.mailmap_contacts.specs.Counts.{AreContactsOf};
+ghost use Rattle.mailmap_suggestions.specs.Changes.{contacts_of};
+ghost use Rattle.mailmap_suggestions.specs.Counted.{git_answered, other_git_answers};
+ghost use Rattle.mailmap_suggestions.specs.Forms.{is_answered, own_key, replaced};
+ghost use Rattle.mailmap_suggestions.specs.GroupEntries.{are_alike};
+ghost use Rattle.mailmap_suggestions.specs.Histories.{histories_of};
+
+use crate::histories::Histories;
+use mailmap_contacts::answers::Tally;
+use mailmap_contacts::counter::Contacts;
+use mailmap_contacts::proper::is_same;
+use mailmap_redundancy::{Effective, Fields};
+use std::alloc::{AllocError, Global};
+use std::marker::Model;
+
+/// What answers as mailmaps do.
+#[derive(Drop)]
+pub(crate) struct Answers<'p, 'a> {
+    ours: Effective<'p, 'a>,
+    gits: Effective<'p, 'a>,
+}
+
+impl<'p, 'a> Model for Answers<'p, 'a> {
+    ghost use Rattle.mailmap_redundancy.specs.Redundancy.{entries};
+    ghost use Rattle.mailmap_suggestions.specs.Forms as spec;
+
+    ghost Value = { spec.Histories };
+
+    ghost view = { λ s. record { ours = entries s.ours.history; gits = entries s.gits.history } };
+}
+
+impl<'p, 'a> Answers<'p, 'a> {
+    /// The answers by these entries.
+    pub(crate) fn new(
+        alloc: Global,
+        histories: &'p Histories<'a>,
+    ) -> Result<Answers<'p, 'a>, AllocError>
+        ensures { IfOk result (λ answers. answers ≡ histories.now) }
+    {
+        Ok(Answers {
+            ours: histories.ours.effective(alloc)?,
+            gits: histories.gits.effective(alloc)?,
+        })
+    }
+
+    /// What this library answers to a contact. It comes where the contact comes.
+    pub(crate) fn ours(&self, contact: &Tally<'a>) -> Tally<'a>
+        ensures { tally_of result ≡ answered self.now.ours (tally_of contact.now) }
+    {
+        let origins = self.ours.origins(contact.name, contact.email);
+        with_fields(contact, origins.fields(contact.email))
+    }
+
+    /// What git answers.
+    pub(crate) fn gits(&self, contact: &Tally<'a>) -> Tally<'a>
+        ensures { tally_of result ≡ git_answered self.now (tally_of contact.now) }
+    {
+        let origins = self.gits.origins(contact.name, contact.email);
+        with_fields(contact, origins.git_fields())
+    }
+
+    /// git's answers to the contacts that it answers otherwise than this library, in their order.
+    pub(crate) fn others_of_git(
+        &self,
+        alloc: Global,
+        contacts: &[Tally<'a>],
+    ) -> Result<Vec<Tally<'a>>, AllocError>
+        ensures { IfOk result (λ others. map tally_of others.items
+            ≡ other_git_answers self.now (map tally_of contacts.now)) }
+    {
+        let mut others = Vec::new(alloc);
+        for contact in contacts {
+            let answer = self.gits(contact);
+            if !is_same(&answer, &self.ours(contact)) {
+                others.push(answer)?;
+            }
+        }
+        Ok(others)
+    }
+
+    /// Whether this library has an entry with the contact's name and email as old ones.
+    pub(crate) fn has_own_entry(&self, contact: &Tally<'_>) -> bool
+        ensures { result ≡ is_some (last_fields self.now.ours (own_key (tally_of contact.now).contact)) }
+    {
+        self.ours.has_own_entry(contact.name, contact.email)
+    }
+
+    /// Whether git has one.
+    pub(crate) fn has_own_entry_in_git(&self, contact: &Tally<'_>) -> bool
+        ensures { result ≡ is_some (last_fields self.now.gits (own_key (tally_of contact.now).contact)) }
+    {
+        self.gits.has_own_entry(contact.name, contact.email)
+    }
+
+    /// Whether this library has any entry for the contact's email.
+    pub(crate) fn has_email(&self, contact: &Tally<'_>) -> bool
+        ensures { result ≡ is_some (spelling self.now.ours (folded (tally_of contact.now).contact.email)) }
+    {
+        self.ours.has_email(contact.email)
+    }
+
+    /// Whether this library and git answer all of these alike.
+    pub(crate) fn are_alike(&self, group: &[Tally<'a>]) -> bool
+        ensures { result ≡ are_alike self.now (contacts_of group.now) }
+    {
+        match group.first() {
+            Some(first) => self.are_answered(&self.ours(first), group),
+            None => true,
+        }
+    }
+
+    /// Whether this library and git both answer all of these by `to`.
+    pub(crate) fn are_answered(&self, to: &Tally<'_>, group: &[Tally<'a>]) -> bool
+        ensures { result
+            ≡ list_all (λ t. is_answered self.now (tally_of to.now).contact (tally_of t).contact) group.now }
+    {
+        group.iter().all(|contact| self.is_answered(to, contact))
+    }
+
+    fn is_answered(&self, to: &Tally<'_>, contact: &Tally<'a>) -> bool
+        ensures { result ≡ is_answered self.now (tally_of to.now).contact (tally_of contact.now).contact }
+    {
+        is_same(&self.ours(contact), to) && is_same(&self.gits(contact), to)
+    }
+}
+
+/// git's answers to the distinct contacts that it answers otherwise than this library, with these mailmaps. Each comes
+/// where its contact comes; they are in the order of the contacts' first lines.
+///
+/// With `Jane <Jane@x>` the contact `jane <jane@x>` is `Jane <Jane@x>` for this library, and for git `Jane <jane@x>`.
+pub fn other_git_answers<'a>(
+    alloc: Global,
+    buffers: &[&'a [u8]],
+    contacts: &'a Contacts,
+) -> Result<Vec<Tally<'a>>, AllocError>
+    ensures { (lines : List Text) → AreContactsOf lines contacts.now → IfOk result (λ others. map tally_of others.items
+        ≡ other_git_answers (histories_of (map (λ b. b.now) buffers.now)) (tallied (contacts_from 1 lines))) }
+{
+    let histories = Histories::read(alloc, buffers)?;
+    let answers = Answers::new(alloc, &histories)?;
+    answers.others_of_git(alloc, &contacts.in_order(alloc)?)
+}
+
+// The contact with its fields overridden.
+fn with_fields<'a>(contact: &Tally<'a>, fields: Option<Fields<'a>>) -> Tally<'a>
+    ensures { tally_of result ≡ record {
+      contact = replaced (unwrap_or (option_map fields_of fields.entry) no_fields) (tally_of contact.now).contact;
+      seen = (tally_of contact.now).seen;
+    } }
+{
+    match fields {
+        Some(fields) => Tally {
+            name: fields.name.unwrap_or(contact.name),
+            email: fields.email.unwrap_or(contact.email),
+            seen: contact.seen,
+        },
+        None => *contact,
+    }
+}

@@ -1,6 +1,0 @@
-use Rattle.std.proofs.Common.{rules}
-use Rattle.mailmap_tables.proofs.TextsOfRows.{email_starts}
-use Rattle.mailmap_tables.proofs.texts.fields.Goals as goal
-
-pub new_email-requires : goal.new_email-requires
-new_email-requires c = let within = email_starts _ c.args.texts c.requires in search rules

@@ -1,0 +1,183 @@
+//! Puts one entry into tables. Its texts are appended to the pool before any row changes, so the entries of the tables
+//! stay as they were if memory runs out.
+ghost use Rattle.std.specs.Prelude.{◌≡◌, ◌<◌, ◌≤◌, ◌++◌, ℕ, IfOk, None, OnErr, OnOk, Some, length, true};
+ghost use Rattle.std.specs.Option.{ForSome, option_copied, option_map, option_or};
+ghost use Rattle.mailmap_entries.specs.Entries.{mapping_of};
+ghost use Rattle.mailmap_entries.specs.Folding.{Text, folded};
+ghost use Rattle.mailmap_entries.specs.Semantics.{is_accepted, new_fields};
+ghost use Rattle.mailmap_tables.specs.KeySearch.{IsFound, IsMissing};
+ghost use Rattle.mailmap_tables.specs.Groups.{AreGroups, email_key};
+ghost use Rattle.mailmap_tables.specs.Put.{IsPut, with_email};
+ghost use Rattle.mailmap_tables.specs.Pool.{IsRow, IsWithin, LiesIn, spelled, text_of};
+
+use crate::rows::{EmailRow, NameRow};
+use crate::search::{find_email_last_first, find_name_last_first};
+use crate::tables::Tables;
+use crate::texts::{RowTexts, Source, Span};
+use mailmap_entries::Entry;
+use mailmap_entries::fold::prefix::Prefixed;
+use std::alloc::AllocError;
+
+impl Tables {
+    /// Merges an accepted entry into the tables, with this spelling of its email, and returns the index of the email.
+    /// Without an old name, its new fields override those of its email. With an old name, its fields replace both
+    /// fields of that name, or the name is added. An email that isn't there is added.
+    pub(crate) fn put(&mut self, email: &[u8], entry: &Entry<'_>) -> Result<usize, AllocError>
+        requires groups { AreGroups self.old.groups }
+        requires accepted { is_accepted (mapping_of entry.now) ≡ true }
+        ensures ok { IfOk result (λ index. IsPut (with_email email.now (mapping_of entry.now)) self.old.groups index
+            self.new.groups) }
+        ensures err { OnErr result (self.new.groups ≡ self.old.groups) }
+    {
+        let email = Prefixed::new(email);
+        match find_email_last_first(&self.view(), email) {
+            Ok(index) => {
+                self.put_at(index, email.text, entry)?;
+                Ok(index)
+            }
+            Err(index) => {
+                self.put_email(index, email, entry)?;
+                Ok(index)
+            }
+        }
+    }
+
+    /// Does the same if the email is known to be at this index.
+    pub(crate) fn put_at(
+        &mut self,
+        index: usize,
+        email: &[u8],
+        entry: &Entry<'_>,
+    ) -> Result<(), AllocError>
+        requires groups { AreGroups self.old.groups }
+        requires found { IsFound email_key (folded email.now) self.old.groups index }
+        requires accepted { is_accepted (mapping_of entry.now) ≡ true }
+        ensures ok { OnOk result (IsPut (with_email email.now (mapping_of entry.now)) self.old.groups index
+            self.new.groups) }
+        ensures err { OnErr result (self.new.groups ≡ self.old.groups) }
+    {
+        match entry.old_name() {
+            None => self.put_fields(index, email, entry),
+            Some(old_name) => self.put_name(index, email, old_name, entry),
+        }
+    }
+
+    // Inserts an email with an entry for it.
+    fn put_email(
+        &mut self,
+        index: usize,
+        email: Prefixed<'_>,
+        entry: &Entry<'_>,
+    ) -> Result<(), AllocError>
+        requires groups { AreGroups self.old.groups }
+        requires within { index ≤ length self.old.groups }
+        requires missing { IsMissing email_key (folded email.text.now) self.old.groups index }
+        requires accepted { is_accepted (mapping_of entry.now) ≡ true }
+        ensures ok { OnOk result (IsPut (with_email email.entry.text.now (mapping_of entry.now)) self.old.groups index
+            self.new.groups) }
+        ensures err { OnErr result (self.new.groups ≡ self.old.groups) }
+    {
+        let alloc = self.allocator();
+        let old_email = Source::Given(email.text);
+        match entry.old_name() {
+            None => {
+                let texts = self.append_entry(old_email, entry)?;
+                let names = Vec::new(alloc);
+                self.insert_email(index, email.prefix, EmailRow { texts, names })
+            }
+            Some(old_name) => {
+                let texts = self.append_row(old_email, None, None)?;
+                let name = self.append_entry(Source::Given(old_name), entry)?;
+                let names = Vec::from_slice(alloc, &[name])?;
+                self.insert_email(index, email.prefix, EmailRow { texts, names })
+            }
+        }
+    }
+
+    // Overrides the fields of an email by those of an entry for it.
+    fn put_fields(
+        &mut self,
+        index: usize,
+        email: &[u8],
+        entry: &Entry<'_>,
+    ) -> Result<(), AllocError>
+        requires groups { AreGroups self.old.groups }
+        requires within { index < length self.old.groups }
+        requires found { IsFound email_key (folded email.now) self.old.groups index }
+        requires accepted { is_accepted (mapping_of entry.now) ≡ true }
+        requires unnamed { (mapping_of entry.now).old_name ≡ None }
+        ensures ok { OnOk result (IsPut (with_email email.now (mapping_of entry.now)) self.old.groups index
+            self.new.groups) }
+        ensures err { OnErr result (self.new.groups ≡ self.old.groups) }
+    {
+        let (existing, _) = self.view().email(index);
+        let (new_name, new_email) = self.view().fields(existing);
+        let row = self.append_row(
+            Source::Pool(existing.old()),
+            given_or(entry.new_name(), new_name),
+            given_or(entry.new_email(), new_email),
+        )?;
+        self.replace_texts(index, row);
+        Ok(())
+    }
+
+    // Adds a name to the email of an entry, or replaces the fields of a name that it has.
+    fn put_name(
+        &mut self,
+        index: usize,
+        email: &[u8],
+        old_name: &[u8],
+        entry: &Entry<'_>,
+    ) -> Result<(), AllocError>
+        requires groups { AreGroups self.old.groups }
+        requires within { index < length self.old.groups }
+        requires found { IsFound email_key (folded email.now) self.old.groups index }
+        requires accepted { is_accepted (mapping_of entry.now) ≡ true }
+        requires named { (mapping_of entry.now).old_name ≡ Some old_name.now }
+        ensures ok { OnOk result (IsPut (with_email email.now (mapping_of entry.now)) self.old.groups index
+            self.new.groups) }
+        ensures err { OnErr result (self.new.groups ≡ self.old.groups) }
+    {
+        let view = self.view();
+        let (_, names) = view.email(index);
+        match find_name_last_first(&view, names, old_name) {
+            Ok(place) => {
+                let existing = names[place];
+                let row = self.append_entry(Source::Pool(existing.old()), entry)?;
+                self.replace_name(index, place, row);
+                Ok(())
+            }
+            Err(place) => {
+                let row = self.append_entry(Source::Given(old_name), entry)?;
+                self.insert_name(index, place, row)
+            }
+        }
+    }
+
+    // Appends an old text and the new fields of an entry to the pool.
+    fn append_entry(&mut self, old: Source<'_>, entry: &Entry<'_>) -> Result<RowTexts, AllocError>
+        requires { IsWithin (length self.old.pool) old }
+        ensures grown { (more : Text) × (self.new ≡ record self.old { pool = self.old.pool ++ more }) }
+        ensures row { IfOk result
+            (IsRow self.new.pool (text_of self.old.pool old.entry) (new_fields (mapping_of entry.now))) }
+    {
+        self.append_row(
+            old,
+            given_or(entry.new_name(), None),
+            given_or(entry.new_email(), None),
+        )
+    }
+}
+
+// The given text, otherwise the existing one.
+fn given_or(given: Option<&[u8]>, existing: Option<Span>) -> Option<Source<'_>>
+    ensures text { (pool : Text) → option_map (text_of pool) result
+        ≡ option_or (option_copied given.entry) (option_map (spelled pool) existing) }
+    ensures within { (n : ℕ) → ForSome existing (LiesIn n) → ForSome result (IsWithin n) }
+{
+    match (given, existing) {
+        (Some(text), _) => Some(Source::Given(text)),
+        (None, Some(span)) => Some(Source::Pool(span)),
+        (None, None) => None,
+    }
+}

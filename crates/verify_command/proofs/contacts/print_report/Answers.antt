@@ -1,0 +1,48 @@
+use Rattle.std.proofs.Common.{rules, ◌≡◌, ◌∙◌, List, ℕ, Bor, Vec, Global, ap, filter, map, not, subst, sym}
+use Rattle.std.specs.Slice.Iter.{iter_rest}
+use Rattle.mailmap_contacts.specs.Answers.{finding_view, tally_of}
+use Rattle.mailmap_contacts.specs.Contacts.{AreTallies, answers_to}
+use Rattle.mailmap_contacts.specs.Counts.{AreContactsOf}
+use Rattle.mailmap_findings.specs.Needs.{any_needs}
+use Rattle.mailmap_findings.specs.Positions.{whole_lines}
+use Rattle.mailmap_findings.specs.Remarks.{AreRemarks}
+use Rattle.mailmap_findings.proofs.Read.{mappings_of-located_lines}
+use Rattle.mailmap_findings.proofs.WholeLines.{lines-whole}
+use Rattle.mailmap_redundancy.specs.Redundancy.{entries}
+use Rattle.mailmap_suggestions.specs.Histories.{histories_of}
+use Rattle.verify_command.specs.Report.{AreFoundWith, outcome_of, pieces_beside, text_of}
+use Rattle.verify_command.specs.Settings.{choices_of, mailmap_names}
+use Rattle.verify_command.proofs.Leaving.{left_pieces}
+use Rattle.verify_command.proofs.contacts.print_report.Goals as goal
+
+pub returns-clause-leaves : goal.returns-clause-leaves
+returns-clause-leaves g c = λ taken counted.
+    let lines = whole_lines taken in
+    let are = subst (λ ls. AreContactsOf ls c.args.counted.now) (lines-whole taken) counted in
+    let items : Vec ℕ Global → List ℕ = λ path. path.items in
+    let now : Bor (List ℕ) → List ℕ = λ b. b.now in
+    let mailmaps = map now c.args.buffers.now in
+    let begun = c.in_ok-needs.ensures in
+    let remarks : AreRemarks mailmaps taken c.new-remarks.result = subst (λ ms. AreRemarks ms taken c.new-remarks.result) c.in_ok-mailmaps.ensures
+    (c.new-remarks.ensures c.in_ok-mailmaps.mailmaps taken (search rules) (record {
+      kept = c.in_ok-needs.needs.kept;
+      effective = begun.effective;
+      whole = c.as_slice-4.ensures.value ∙ c.in_ok-unneeded.ensures ∙ c.add_to_needs.ensures.left lines are ∙ ap (filter (λ p. not (any_needs c.in_ok-needs.needs.kept lines p))) begun.left;
+    })) in
+    let ours : entries c.add_to_needs.new.needs.history ≡ (histories_of mailmaps).ours = ap entries (c.add_to_needs.ensures.history ∙ begun.history)
+    ∙ mappings_of-located_lines 0 c.in_ok-mailmaps.mailmaps ∙ ap (λ ms. (histories_of ms).ours) c.in_ok-mailmaps.ensures in
+    let answers = map tally_of c.in_ok-answers.answers.items in
+    let found = map finding_view (iter_rest c.iter-found.result) in
+    let shown : map finding_view c.in_ok-findings.findings.items ≡ found = sym (ap (map finding_view) (c.iter-found.ensures.rest ∙ c.as_slice-5.ensures.value)) in
+    let about : AreFoundWith (histories_of mailmaps) lines found = record {
+      answers = answers;
+      tallies = subst (λ k. AreTallies (answers_to k lines) answers) ours (c.in_ok-answers.ensures lines are);
+      whole = rw (shown, c.lines_without_contact.ensures ∙ are.lines_without_contact, c.as_slice.ensures.value, ap (map tally_of) c.as_slice-2.ensures.value ∙ c.in_ok-git_answers.ensures lines are) at c.in_ok-findings.ensures.whole;
+      in_order = rw shown at c.in_ok-findings.ensures.in_order;
+    } in
+    let names : map items c.mailmap_names-names.result.now ≡ mailmap_names (choices_of c.args.request.now.settings) (map items c.args.request.now.paths.items) = search rules in
+    let of = λ (ns : List (List ℕ)) (file : List ℕ). pieces_beside (choices_of c.args.request.now.settings) ns file c.new-remarks.result found in
+    let pieces = of (map items c.mailmap_names-names.result.now) c.contacts_name-file.result.now in
+    left_pieces c.print_pieces.result (outcome_of pieces) (text_of pieces)
+    (c.new-remarks.result, found, remarks, about, ((λ i. text_of (of (names i) (c.contacts_name-file.ensures i))), (λ i. outcome_of (of (names i) (c.contacts_name-file.ensures i)))))
+    c.print_pieces.ensures.ok c.print_pieces.ensures.err c.print_pieces.ensures.only

@@ -1,0 +1,134 @@
+"""What arguments ask for: files or standard input, modes and options, and characters that are escaped."""
+from pathlib import Path
+
+from runs import wants
+from ways import CHECK, SHORTLOG, VERIFY, VERSION, run, said
+
+FILES = {"one": b"1", "none": b"", "mapped": b"M <m@y> <a@x>\n", "cased": b"N <N@x>\n"}
+# contacts, and a line that is none
+CONTACTS = b"b <A@x>\r\np\x1b\nB <M@y>\n\nb <A@x>\nm <q@x> end"
+SPLIT = b"N <a@x>\n--\nb <A@x>\n"
+COUNTED = b"b <A@x>\r\n\nno contact\n a <a@x> end\nb <b@x>"
+NO_EMAIL = b":1: error: no email in brackets [no-email]\n"
+SAME_NAME = b"<stdin>:3: note: B <M@y> (1) has the name of b <A@x> (2) [same-name]\n"
+MISSING = b"three: No such file or directory"
+# The program, its arguments, its input, the status, and the output or, with the status 2, the message.
+TASKS = [
+    (CHECK, "", SPLIT, 0, b"N <a@x>\n"),
+    (CHECK, "mapped", SPLIT, 0, b"M <m@y>\n--\nM <m@y>\n"),
+    (CHECK, "--compact", SPLIT, 0, b" b <a@x>\n"),
+    (CHECK, "--compact none mapped", SPLIT, 0, b" M <m@y> <a@x>\n"),
+    (CHECK, "--compact mapped three", SPLIT, 2, b"cannot read file 2"),
+    (CHECK, "mapped --compact", SPLIT, 2, b"cannot read file 2"),
+    (VERIFY, "three --version -h", b"", 0, b"mailmap_verify " + VERSION),
+    (VERIFY, "", b"plain", 1, b"<stdin>" + NO_EMAIL),
+    (VERIFY, "-- -", b"N <a@x>\nN <a@x>\n", 1,
+     b"<stdin>:1: warning: no effect: <stdin>:2 says the same [no-effect]\n"),
+    (VERIFY, "mapped -S note", b"plain", 0, b""),
+    (VERIFY, "one --severity=error none -- one", b"plain", 1, (b"one" + NO_EMAIL) * 2),
+    (VERIFY, "one -e no-email", b"plain", 0, b""),
+    (VERIFY, "one -", b"", 2, b"-: No such file or directory"),
+    (VERIFY, "-- --prune", b"", 2, b"--prune: No such file or directory"),
+    (VERIFY, "--prune", b"N <a@x>\nN <a@x>\n", 0, b"N <a@x>\n"),
+    (VERIFY, "one --prune", b"plain", 0, b"1"),
+    (VERIFY, "--prune three", b"", 2, MISSING),
+    (VERIFY, "--explain one mapped", CONTACTS, 0,
+     b"b <A@x> is M <m@y> by mapped:1\np\\x1b is no contact\nB <M@y> is not mapped\n"
+     b"b <A@x> is M <m@y> by mapped:1\nm <q@x> is not mapped\n"),
+    (VERIFY, "--explain", b"b <b@x>", 0, b"b <b@x> is not mapped\n"),
+    (VERIFY, "--contacts - mapped", CONTACTS, 1,
+     b"<stdin>:2: error: no contact [no-contact]\n"
+     b"<stdin>:3: warning: B <M@y> (1) has the email of M <m@y> (2) [same-email]\n"
+     b"<stdin>:6: note: m <q@x> (1) has the name of M <m@y> (2) [same-name]\n"),
+    (VERIFY, "--contacts=- one --stdin-name log -e same-name", CONTACTS, 1,
+     b"one" + NO_EMAIL + b"log:2: error: no contact [no-contact]\n"),
+    (VERIFY, "--contacts=- one -e no-email --exclude=no-contact", CONTACTS, 0, SAME_NAME),
+    (VERIFY, "--contacts=- one -S note -e no-email,no-contact", CONTACTS, 1, SAME_NAME),
+    (VERIFY, "one --contacts one mapped -f json", b"", 1,
+     b'{"file":{"text":"one"},"kind":"no-email","level":"error","line":1,'
+     b'"message":{"text":"no email in brackets"}}\n'
+     b'{"file":{"text":"mapped"},"kind":"unneeded","level":"warning","line":1,'
+     b'"message":{"text":"no contact needs it"}}\n'
+     b'{"file":{"text":"one"},"kind":"no-contact","level":"error","line":1,"message":{"text":"no contact"}}\n'),
+    (VERIFY, "--contacts - cased", b"n <n@x>\nn <n@x>\n", 1,
+     b"<stdin>:1: warning: git answers N <n@x> [git-answers]\n"),
+    (VERIFY, "--contacts mapped -", b"plain", 1, b"<stdin>" + NO_EMAIL),
+    (VERIFY, "--contacts three mapped", b"", 2, MISSING),
+    (VERIFY, "mapped --suggest -", CONTACTS, 0,
+     b"# 2 M <m@y>\n# 1 B <M@y>\nM <m@y> <M@y>\n\n# 3 M <m@y>\n# 1 m <q@x>\n#?M <m@y> <q@x>\n\n"),
+    (VERIFY, "--suggest=cased one", CONTACTS, 0, b""),
+    (VERIFY, "--suggest folder -", b"", 2, b"-: No such file or directory"),
+    (SHORTLOG, "", COUNTED, 0, b"     1\ta\n     2\tb\n"),
+    (SHORTLOG, "mapped", COUNTED, 0, b"     2\tM\n     1\tb\n"),
+    (SHORTLOG, "-n --", COUNTED, 0, b"     2\tb\n     1\ta\n"),
+    (SHORTLOG, "-s -nn one", COUNTED, 0, b"     2\tb\n     1\ta\n"),
+    (SHORTLOG, "-e one mapped", COUNTED, 0, b"     2\tM <m@y>\n     1\tb <b@x>\n"),
+    (SHORTLOG, "-sen", COUNTED, 0, b"     1\ta <a@x>\n     1\tb <A@x>\n     1\tb <b@x>\n"),
+    (SHORTLOG, "-n -- -e", COUNTED, 2, b"-e: No such file or directory"),
+    (SHORTLOG, "mapped -h", COUNTED, 2, b"-h: No such file or directory"),
+    (SHORTLOG, "--version -h", COUNTED, 0, b"mailmap_shortlog " + VERSION),
+]
+# Control characters and those that turn the direction of text are escaped. Those beside them are as they are, and so are
+# all other characters and bytes that aren't UTF-8.
+SHOWN = [
+    (b"|\x00\x09\x1b[31m\x1f \\x1b\x7e\x7f\x80\x9f\xa0\xff|",
+     b"|\\x00\\x09\\x1b[31m\\x1f \\x1b\x7e\\x7f\\x80\\x9f\xa0\xff|"),
+    (b"\xc2\x80\xc2\x9b\xc2\x9f\xc2\xa0|", b"\\u0080\\u009b\\u009f\xc2\xa0|"),
+    (b"\xd8\x9b\xd8\x9c\xd8\x9d", b"\xd8\x9b\\u061c\xd8\x9d"),
+    (b"\xe2\x80\x8d\xe2\x80\x8e\xe2\x80\x8f\xe2\x80\x90", b"\xe2\x80\x8d\\u200e\\u200f\xe2\x80\x90"),
+    (b"|\xe2\x80\xa9\xe2\x80\xaa\xe2\x80\xab\xe2\x80\xac", b"|\xe2\x80\xa9\\u202a\\u202b\\u202c"),
+    (b"\xe2\x80\xad\xe2\x80\xae\xe2\x80\xaf|", b"\\u202d\\u202e\xe2\x80\xaf|"),
+    (b"\xe2\x81\xa5\xe2\x81\xa6\xe2\x81\xa7", b"\xe2\x81\xa5\\u2066\\u2067"),
+    (b"\xe2\x81\xa8\xe2\x81\xa9\xe2\x81\xaa", b"\\u2068\\u2069\xe2\x81\xaa"),
+    (b"\xc4\x80\x80\xe2\x82\x80\xf0\x9f\x98\x80", b"\xc4\x80\\x80\xe2\x82\x80\xf0\x9f\x98\x80"),
+    (b"\xe2\x80x\xf0\x9f\x98x\xed\xa0\x80", b"\xe2\\x80x\xf0\\x9f\\x98x\xed\xa0\\x80"),
+    (b"\xc2\xc2\x9b", b"\xc2\\u009b"),
+    (b"\xf0\x9f\xe2\x80\xae", b"\xf0\\x9f\\u202e"),
+]
+# Lines of a mailmap, and what git 2.39 reads in place of what this library does, or None if it reads the same. git reads
+# 1,023 bytes at a time.
+GIT_READS = [
+    (b"", None),
+    (b"plain\n", None),
+    (b"Joe <a@x", None),
+    (b"<a@x>\n", None),
+    (b"# Joe <a@x>\n", None),
+    (b" # Joe <a@x>\n", None),
+    (b"Joe <a@x>\n", None),
+    (b"Joe <a@x>", None),
+    (b"\tJoe\r <a@x>\r\n", None),
+    (b"Joe <> <a@x>\n", None),
+    (b"Joe <a@x> <>\n", None),
+    (b"Joe < a@x >\n", b"it as Joe < a@x >"),
+    (b"\x0bJoe <a@x>\n", b"it as \\x0bJoe <a@x>"),
+    (b"Joe <a@x>\0 <b@x>\n", b"it as Joe <a@x>"),
+    (b"\0Joe <a@x>\n", b"nothing here"),
+    (b"Joe <a\0@x>\n", b"nothing here"),
+    (b"Joe < > <a@x>\n", b"it as Joe < > <a@x>"),
+    (b"<a@x> Bob < b@x>\n", b"it as <a@x> Bob < b@x>"),
+    (b" " * 1_014 + b"Joe <a@x>\n", None),
+    (b" " * 1_015 + b"Joe <a@x>\n", b"nothing here"),
+    (b"Jane <j@x>".ljust(1_023) + b"Joe <a@x>\n", b"it as 2 lines"),
+]
+
+
+def wants_git_reading(line, reading):
+    status, printed, message = run(VERIFY, [], input=line)
+    found = b"".join(text for text in printed.splitlines(True) if text.endswith(b" [git-reads]\n"))
+    expected = b"<stdin>:1: warning: git reads %b [git-reads]\n" % reading if reading else b""
+    wants(f"what git reads of {line}", (status, found, message), status, expected)
+
+
+def shows():
+    for name, text in FILES.items():
+        Path(name).write_bytes(text)
+    for program, words, text, status, printed in TASKS:
+        expected = (b"", said(program, printed)) if status == 2 else (printed, b"")
+        wants(f"{program} {words}", run(program, words.split(), input=text), status, *expected)
+    for text, shown in SHOWN:
+        wants(f"{text} shown", run(VERIFY, ["--explain"], input=text), 0, shown + b" is no contact\n")
+    for line, reading in GIT_READS:
+        wants_git_reading(line, reading)
+    yield f"{len(TASKS)} tasks: options, files and standard input as the manual pages have them"
+    yield f"{len(SHOWN)} texts in which characters are escaped"
+    yield f"{len(GIT_READS)} lines of a mailmap: git reads them as mailmap_verify says"
