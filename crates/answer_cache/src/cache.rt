@@ -1,10 +1,12 @@
 //! The cache.
+ghost use Rattle.std.specs.Hash.FoldHasher.{finish, initial, write};
 ghost use Rattle.std.specs.Prelude.{◌≡◌, ◌+◌, ◌<◌, ◌≤◌, [], List, Contains, IfOk, IfSome, length, vec_capacity};
 ghost use Rattle.answer_cache.specs.CachedLines.{CachedLine, Inserts};
 
 pub use crate::row::ROW_LEN;
 use crate::row::Row;
 use std::alloc::{AllocError, Global};
+use std::hash::{FoldHasher, Hasher};
 use std::marker::Model;
 
 /// The maximum number of lines in the cache.
@@ -87,7 +89,8 @@ impl AnswerCache {
         })
     }
 
-    /// The answer to a line with this hash, if it is found.
+    /// The answer to a line with this hash, if it is found. Inlined, since nearly each line of a history calls it.
+    #[inline(always)]
     pub fn get(&self, hash: u64, line: &[u8]) -> Option<&[u8]>
         ensures { IfSome result (λ answer. Contains self.now (record { line = line.now; answer = answer.now })) }
     {
@@ -133,22 +136,14 @@ impl AnswerCache {
         let Some(row) = Row::new(line, answer) else {
             return;
         };
-        let index = self.next;
-        self.insert_row(row);
         self.add_slots();
         let place = self.place_of(hash);
         if let Some(slot) = self.slots.get_mut(place) {
             *slot = Slot {
-                index,
+                index: self.next,
                 tag: tag_of(hash),
             };
         }
-    }
-
-    fn insert_row(&mut self, row: Row)
-        ensures kept { Inserts self.old row self.new }
-        ensures few { length self.old ≤ ROWS → length self.new ≤ ROWS }
-    {
         let index = self.next as usize;
         if index < self.rows.len() {
             self.rows[index] = row;
@@ -158,14 +153,14 @@ impl AnswerCache {
         self.next = (self.next + 1) % ROWS as u16;
     }
 
-    // Doubles the number of slots if there are few for the rows. Each slot is copied, so that hashes still find their
-    // slots.
+    // Doubles the number of slots if there are few for one more row. Each slot is copied, so that hashes still find
+    // their slots.
     fn add_slots(&mut self)
         ensures { self.new ≡ self.old }
     {
         let count = self.slots.len();
         if count < SLOTS
-            && count / SLOTS_PER_ROW < self.rows.len()
+            && count / SLOTS_PER_ROW <= self.rows.len()
             && self.slots.extend_from_within(..).is_ok()
         {
             self.mask |= count;
@@ -176,6 +171,15 @@ impl AnswerCache {
     fn place_of(&self, hash: u64) -> usize {
         hash as usize & self.mask
     }
+}
+
+/// The hash of a text. Not collision resistant: texts with the same hash are easy to choose.
+pub fn hash_of(text: &[u8]) -> u64
+    ensures { result ≡ finish (write initial text.now) }
+{
+    let mut hasher = FoldHasher::default();
+    hasher.write(text);
+    hasher.finish()
 }
 
 fn tag_of(hash: u64) -> u16 {

@@ -2,8 +2,6 @@
 #![tactic(auto)]
 
 mod cache;
-mod hashes;
 mod row;
 
-pub use cache::{AnswerCache, ROW_LEN, ROWS};
-pub use hashes::hash_of;
+pub use cache::{AnswerCache, ROW_LEN, ROWS, hash_of};

@@ -4,23 +4,21 @@
 //! `Failure::Input` and `Failure::Memory` for any input, and `Failure::Output` for any text. They don't know the bytes
 //! of real files and streams either: clauses about bytes only say something about readers and writers whose bytes are
 //! known, such as those in memory.
-ghost use Rattle.std.specs.Prelude.{◌≡◌, ◌++◌, ◌⊎◌, List, ℕ, IfErr, IfOk, IsErrOf, IsNone, None, IsSome, OnOk, Some, map, take};
-ghost use Rattle.std.specs.Io.KnownBytes.{Appends, IsAtEnd};
-ghost use Rattle.mailmap_snapshot.specs.Contacts.{answers};
+ghost use Rattle.std.specs.Prelude.{◌≡◌, ◌⊎◌, IfErr, IfOk, IsErrOf, IsNone, None, IsSome, OnOk, map};
+ghost use Rattle.std.specs.Io.KnownBytes.{IsAtEnd};
+ghost use Rattle.mailmap_snapshot.specs.Contacts.{answers, answers_by};
+ghost use Rattle.mailmap_snapshot.proofs.Streams.{answers-append};
+ghost use Rattle.command_line.specs.Answering.{LeavesLines};
 ghost use Rattle.command_line.specs.Failures.{IsOfInput};
 ghost use Rattle.command_line.specs.Leaving.{LeavesText};
-ghost use Rattle.command_line.specs.Printing.{Prints, PrintsFront};
-ghost use Rattle.check_command.specs.Run.{file_bytes, AnswersContacts, AnswersLines, AnswersWholeLines, IsMailmap};
-ghost use Rattle.check_command.specs.Run.{AnswersSome, HasAnswered, LeavesContacts};
+ghost use Rattle.check_command.specs.Run.{file_bytes, AnswersContacts, IsMailmap, LeavesContacts};
 
+use command_line::answering::{LineAnswers, answer_lines};
 use command_line::failure::Failure;
-use command_line::streams::{flush, read_input, read_part, write_all, write_unflushed};
+use command_line::streams::{read_input, write_all};
 use mailmap_snapshot::check::{ContactStream, check, compact, split};
-use std::alloc::Global;
-use std::io::{ErrorKind, Read, Write};
-
-// The bytes of contacts per read, at most.
-const PART: usize = 16384;
+use std::alloc::{AllocError, Global};
+use std::io::{Read, Write};
 
 /// Answers contact lines using mailmaps.
 ///
@@ -51,80 +49,35 @@ fn answer_parts<R: Read, W: Write>(
     input: &mut R,
     output: &mut W,
 ) -> Result<(), Failure>
-    ensures prints { OnOk result
-        (Prints (AnswersContacts (Some (map (λ file. file.now) buffers.now)) (R.remaining input.old))
-        (W.contents output.old) (W.contents output.new)) }
-    ensures reads_all { OnOk result (IsAtEnd (R.remaining input.new)) }
-    ensures breaks_off { IsErrOf result Failure.Output
-        → PrintsFront (AnswersContacts (Some (map (λ file. file.now) buffers.now)) (R.remaining input.old))
-        (W.contents output.old) (W.contents output.new) }
-    ensures input_fails { IfErr result (λ e. IsOfInput e
-        → Prints (AnswersWholeLines (Some (map (λ file. file.now) buffers.now)) (R.remaining input.old)
-        (R.remaining input.new)) (W.contents output.old) (W.contents output.new)) }
-    ensures memory_fails { IsErrOf result Failure.Memory
-        → Prints (AnswersLines (Some (map (λ file. file.now) buffers.now)) (R.remaining input.old)
-        (R.remaining input.new)) (W.contents output.old) (W.contents output.new) }
+    ensures leaves { LeavesLines (answers_by (map (λ file. file.now) buffers.now)) (R.remaining input.old)
+        (R.remaining input.new) (W.contents output.old) (W.contents output.new) result }
     ensures only { IfErr result (λ e. IsOfInput e ⊎ (e ≡ Failure.Memory) ⊎ (e ≡ Failure.Output)) }
 {
-    let mut stream = ContactStream::new(alloc, buffers)?;
-    let mut text = Vec::new(alloc);
-    let mut part = [0; PART];
-    for _ in 0..u64::MAX {
-        let count = match read_part(input, &mut part) {
-            Ok(count) => count,
-            Err(cause) => return Err(Failure::Input { cause }),
-        };
-        if count == 0 {
-            return answer_rest(stream, &mut text, output);
-        }
-        answer_part(&mut stream, &part[..count], &mut text, output)?;
-    }
-    // Not reached: no input has so many reads.
-    Err(Failure::Input {
-        cause: ErrorKind::Other,
-    })
+    let stream = ContactStream::new(alloc, buffers)?;
+    let mut lines = ContactLines { stream };
+    answer_lines(alloc, &mut lines, input, output)
 }
 
-// Writes the answers to all lines that end in a part. `text` is a buffer that is reused from call to call.
-fn answer_part<W: Write>(
-    stream: &mut ContactStream,
-    part: &[u8],
-    text: &mut Vec<u8>,
-    output: &mut W,
-) -> Result<(), Failure>
-    ensures ok { OnOk result
-        (HasAnswered stream.old part.now stream.new (W.contents output.old) (W.contents output.new)) }
-    ensures memory_fails { IsErrOf result Failure.Memory
-        → Prints (AnswersSome stream.old part.now) (W.contents output.old) (W.contents output.new) }
-    ensures breaks_off { IsErrOf result Failure.Output
-        → PrintsFront (AnswersSome stream.old part.now) (W.contents output.old) (W.contents output.new) }
-    ensures only { IfErr result (λ e. (e ≡ Failure.Memory) ⊎ (e ≡ Failure.Output)) }
-{
-    let mut taken = 0;
-    while taken < part.len() {
-        text.clear();
-        taken += stream.push(&part[taken..], text)?;
-        write_unflushed(output, text.as_slice())?;
-    }
-    flush(output)
-}
-
-// Answers the last line, if no line feed ended it.
-fn answer_rest<W: Write>(
+// The lines of an input, whose contacts a stream answers.
+#[derive(Drop)]
+struct ContactLines {
     stream: ContactStream,
-    text: &mut Vec<u8>,
-    output: &mut W,
-) -> Result<(), Failure>
-    ensures ok { OnOk result
-        (Appends (W.contents output.old) (W.contents output.new) (answers stream.mappings stream.kept)) }
-    ensures memory_fails { IsErrOf result Failure.Memory → output.new ≡ output.old }
-    ensures breaks_off { IsErrOf result Failure.Output → (count : ℕ)
-        × Appends (W.contents output.old) (W.contents output.new) (take count (answers stream.mappings stream.kept)) }
-    ensures only { IfErr result (λ e. (e ≡ Failure.Memory) ⊎ (e ≡ Failure.Output)) }
-{
-    text.clear();
-    stream.finish(text)?;
-    write_all(output, text.as_slice())
+}
+
+impl LineAnswers for ContactLines {
+    ghost answers = { λ s. answers s.stream.mappings };
+
+    ghost kept = { λ s. s.stream.kept };
+
+    fn push(&mut self, part: &[u8], text: &mut Vec<u8>) -> Result<usize, AllocError> {
+        self.stream.push(part, text)
+    }
+
+    fn finish(&mut self, text: &mut Vec<u8>) -> Result<(), AllocError> {
+        self.stream.finish_line(text)
+    }
+
+    ghost in_order = { λ s. answers-append s.stream.mappings };
 }
 
 // Reads all of the input, and answers the contacts after its mailmap.

@@ -1,8 +1,7 @@
 -- The first file that can't be read.
 use Rattle.std.proofs.Common.{◌≡◌, ◌+◌, ◌-◌, ◌<◌, ℕ, List, [], arith, get_or, length, subst}
 use Rattle.command_line.specs.Files.{AtPath, Bytes, Fails, FailsWith, Gives, IsOfNumber, MayRead, NamesFile, Unknown}
-use Rattle.command_line.specs.declared.failure.Failure.{Failure}
-use Rattle.command_line.specs.declared.failure.Failure.TheVariants.{File, Input, Memory, Output}
+use Rattle.command_line.specs.Failures.{Failure, File, Input, Memory, Output}
 
 may_read : (held : AtPath) (contents : List ℕ) → Gives held contents → MayRead held
 may_read (Bytes bytes) contents gives = tt

@@ -1,3 +1,4 @@
+pub mod AnsweredLines
 pub mod Escapes
 pub mod FirstUnread
 pub mod Printed

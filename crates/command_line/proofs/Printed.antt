@@ -22,18 +22,6 @@ Appends-both a b c x y n all part = (length x + n, subst (Appends a c) (sym (tak
 pub underway-none : {a : Option (List ℕ)} {text : List ℕ} → IsUnderway text a a text
 underway-none {a} = record { written = []; appended = Appends-nil a; whole = refl }
 
--- printing what is held
-pub underway-trans : {a b c : Option (List ℕ)} {text held later : List ℕ} → IsUnderway text a b held → IsUnderway held b c later → IsUnderway text a c later
-underway-trans {a} {b} {c} {later = later} h more = record {
-  written = h.written ++ more.written;
-  appended = Appends-trans a b c h.written more.written h.appended more.appended;
-  whole = h.whole ∙ ap (λ t. h.written ++ t) more.whole ∙ sym (append_assoc h.written more.written later);
-}
-
--- the same beside what is left
-pub underway-with : {a b : Option (List ℕ)} {text held : List ℕ} (left : List ℕ) → IsUnderway text a b held → IsUnderway (text ++ left) a b (held ++ left)
-underway-with {held = held} left h = record { written = h.written; appended = h.appended; whole = ap (λ t. t ++ left) h.whole ∙ append_assoc h.written held left }
-
 -- a write fails, of a text that is held before what is left
 pub underway-broken : {a b : Option (List ℕ)} (c : Option (List ℕ)) {text : List ℕ} (next left : List ℕ) → IsUnderway text a b (next ++ left) → (n : ℕ) × Appends b c (take n next) → (count : ℕ) × Appends a c (take count text)
 underway-broken {a} {b} c next left h (n, part) =
@@ -50,7 +38,12 @@ underway-whole {a} {b} c {held = held} h rest = subst (Appends a c) (sym h.whole
 -- one more item is printed
 pub item-printed : {X : Type 0} (f : X → List ℕ) {xs rest : List X} {x : X} {a b c : Option (List ℕ)} {text later : List ℕ} (held : List ℕ) → xs ≡ x ∷ rest → IsUnderway text a b (held ++ flat_map f xs) → IsUnderway (held ++ f x) b c later
     → IsUnderway text a c (later ++ flat_map f rest)
-item-printed f {rest = rest} held is before more = underway-trans (rw (is, ← append_assoc) at before) (underway-with (flat_map f rest) more)
+item-printed f {rest = rest} {x} {a} {b} {c} {later = later} held is before more = record {
+  written = before.written ++ more.written;
+  appended = Appends-trans a b c before.written more.written before.appended more.appended;
+  whole = let left = flat_map f rest in
+      cc (before.whole, more.whole, ap (flat_map f) is, append_assoc held (f x) left, append_assoc more.written later left, append_assoc before.written more.written (later ++ left));
+}
 
 -- a write fails while it is printed
 pub item-broken : {X : Type 0} (f : X → List ℕ) {xs rest : List X} {x : X} {a b : Option (List ℕ)} (c : Option (List ℕ)) {text : List ℕ} (held : List ℕ) → xs ≡ x ∷ rest → IsUnderway text a b (held ++ flat_map f xs)

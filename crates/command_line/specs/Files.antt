@@ -4,8 +4,7 @@ use Rattle.std.specs.Prelude.{slice_index_or}
 use Rattle.std.specs.Global.{Vec}
 use Rattle.std.specs.declared.io.ErrorKind.{ErrorKind}
 use Rattle.std.specs.declared.io.ErrorKind.TheVariants.{OutOfMemory}
-use Rattle.command_line.specs.declared.failure.Failure.{Failure}
-use Rattle.command_line.specs.declared.failure.Failure.TheVariants.{File, Input, Memory, Output}
+use Rattle.command_line.specs.Failures.{Failure, File, Input, Memory, Output}
 
 -- What is at a path: a file with these bytes, no file that can be opened, for this cause, or nobody knows.
 pub data AtPath : Type 0 where

@@ -2,10 +2,8 @@
 use Rattle.std.specs.Prelude.{◌≡◌, ℕ, List, Option, Result, IfErr, OnOk}
 use Rattle.std.specs.Io.KnownBytes.{IsAtEnd}
 use Rattle.std.specs.Result.{IsErr, IsErrOf}
-use Rattle.command_line.specs.Failures.{IsOfInput}
+use Rattle.command_line.specs.Failures.{IsOfInput, Failure, Memory, Output}
 use Rattle.command_line.specs.Printing.{Prints, PrintsFront}
-use Rattle.command_line.specs.declared.failure.Failure.{Failure}
-use Rattle.command_line.specs.declared.failure.Failure.TheVariants.{Memory, Output}
 
 -- A run that answers while it reads has written all answers, and has read all of the input. If writing fails, it has
 -- written a prefix of them; if reading fails, the answers to all whole lines read so far; if memory runs out, Lost

@@ -1,3 +1,4 @@
+pub mod Answering
 pub mod Failures
 pub mod Files
 pub mod Leaving

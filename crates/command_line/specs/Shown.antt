@@ -1,10 +1,10 @@
 -- Escapes for what a terminal takes for control.
-use Rattle.std.specs.Prelude.{ℕ, ◌+◌, ◌/◌, ◌%◌, nat_lt, nat_le, Bool, ◌==◌, ◌||◌, ◌&&◌, if◌then◌else◌, List, [], ◌∷◌, ◌++◌, take, drop, Option, Some, None}
+use Rattle.std.specs.Prelude.{ℕ, ◌/◌, ◌%◌, nat_lt, nat_le, Bool, ◌==◌, ◌||◌, ◌&&◌, if◌then◌else◌, List, [], ◌∷◌, ◌++◌, take, drop, Option, Some, None, codes, slice_index}
 use Rattle.std.specs.List.{flat_map}
 use Rattle.bstr.specs.Utf8.{Decoded, pieces}
 
 abbrev pub hex_digit : ℕ → ℕ
-hex_digit value = if nat_lt value 10 then 48 + value else 87 + value
+hex_digit value = slice_index (codes "0123456789abcdef") value
 
 -- the two hexadecimal digits of a byte
 abbrev pub hex_byte : ℕ → List ℕ

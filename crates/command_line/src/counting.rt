@@ -4,9 +4,10 @@ ghost use Rattle.std.specs.Io.KnownBytes.{IsAtEnd};
 ghost use Rattle.bstr.specs.Text.{lines_of};
 ghost use Rattle.contact_counter.specs.Counts.{AreContactsOf, HasCounted};
 ghost use Rattle.command_line.specs.Failures.{IsOfInput};
+ghost use Rattle.command_line.specs.Lines.{HasCountedRead};
 
 use crate::failure::Failure;
-use crate::lines::read_lines;
+use crate::streams::{PART, read_part};
 use bstr::ByteSlice;
 use contact_counter::counter::{ContactCounter, Contacts};
 use std::alloc::{AllocError, Global};
@@ -23,19 +24,39 @@ pub fn count_contacts<R: Read>(alloc: Global, input: &mut R) -> Result<Contacts,
     ensures only { IfErr result (λ e. IsOfInput e ⊎ (e ≡ Failure.Memory)) }
 {
     let mut contacts = ContactCounter::new(alloc)?;
-    let mut held = Vec::new(alloc);
-    let mut text = Vec::new(alloc);
+    let mut kept = Vec::new(alloc);
+    let mut part = [0; PART];
     for _ in 0..u64::MAX {
-        let more = read_lines(input, &mut held, &mut text)?;
-        add_lines(&mut contacts, text.as_slice())?;
-        if !more {
+        let count = match read_part(input, &mut part) {
+            Ok(count) => count,
+            Err(cause) => return Err(Failure::Input { cause }),
+        };
+        if count == 0 {
+            add_lines(&mut contacts, kept.as_slice())?;
             return Ok(contacts.into_contacts()?);
         }
+        add_part(&mut contacts, &mut kept, &part[..count])?;
     }
     // Not reached: no input has so many reads.
     Err(Failure::Input {
         cause: ErrorKind::Other,
     })
+}
+
+// Counts the contacts on the lines that end in a part. `kept` carries the start of a line from one part to the next.
+fn add_part(counter: &mut ContactCounter, kept: &mut Vec<u8>, part: &[u8]) -> Result<(), AllocError>
+    ensures { OnOk result ((read : List ℕ) → HasCountedRead read kept.old.items counter.old
+        → HasCountedRead (read ++ part.now) kept.new.items counter.new) }
+{
+    let Some(feed) = part.rfind_byte(b'\n') else {
+        kept.extend_from_slice(part)?;
+        return Ok(());
+    };
+    kept.extend_from_slice(&part[..feed + 1])?;
+    add_lines(counter, kept.as_slice())?;
+    kept.clear();
+    kept.extend_from_slice(&part[feed + 1..])?;
+    Ok(())
 }
 
 /// Counts the contacts on the lines of a text.

@@ -1,11 +1,11 @@
 //! What the programs share: reading files and streams, counting contacts, writing text, messages and exit statuses.
 #![tactic(auto)]
 
+pub mod answering;
 pub mod arguments;
 pub mod counting;
 pub mod failure;
 pub mod files;
-pub mod lines;
 pub mod messages;
 pub mod outcome;
 pub mod printer;

@@ -1,7 +1,7 @@
 //! Escapes what could control a terminal, so that texts can be shown in one.
 ghost use Rattle.std.specs.Prelude.{◌≡◌, ◌<◌, ◌/◌, ◌%◌, ◌++◌, ◌∷◌, OnOk, false};
 ghost use Rattle.std.specs.List.{flat_map, list_any};
-ghost use Rattle.command_line.specs.Shown.{hex_byte, hex_digit, is_control, is_special, shown, shown_byte, shown_piece};
+ghost use Rattle.command_line.specs.Shown.{hex_byte, is_control, is_special, shown, shown_byte, shown_piece};
 ghost use Rattle.command_line.specs.Shown.{turns_text};
 
 use bstr::decode_utf8;
@@ -102,19 +102,13 @@ fn push_code(line: &mut Vec<u8>, code: u32) -> Result<(), AllocError>
     push_hex(line, (code % 256) as u8)
 }
 
+const DIGITS: &[u8] = b"0123456789abcdef";
+
 fn push_hex(line: &mut Vec<u8>, byte: u8) -> Result<(), AllocError>
     ensures { OnOk result (line.new.items ≡ line.old.items ++ hex_byte byte) }
 {
-    line.extend_from_slice(&[digit(byte / 16), digit(byte % 16)])
-}
-
-fn digit(value: u8) -> u8
-    requires { value < 16 }
-    ensures { result ≡ hex_digit value }
-{
-    if value < 10 {
-        b'0' + value
-    } else {
-        b'a' + (value - 10)
-    }
+    line.extend_from_slice(&[
+        DIGITS[usize::from(byte / 16)],
+        DIGITS[usize::from(byte % 16)],
+    ])
 }

@@ -51,15 +51,8 @@ slot_changed cs new slots i u d more lt there same = λ test.
     let rest = S (in_slots (take i slots) ++ in_slots (drop (suc i) slots)) in
     let given = same test in
     let after = parted test slots i u lt in
-    let before : S (in_slots slots) ≡ both_seen (S (slot_tally d)) rest =
-    ap (λ l. S (in_slots l)) (sym (set-get_or slots i d)) ∙ parted test slots i (get_or slots i d) lt
-    ∙ ap (λ x. both_seen (S (slot_tally x)) rest) there in
+    let before = ap (λ l. S (in_slots l)) (sym (ap (set slots i) (sym there) ∙ set-get_or slots i d)) ∙ parted test slots i d lt in
     search (rules, seen-append, arranged (S new) (S (slot_tally u)) (S cs) (S (slot_tally d)) (S more) rest)
-
--- only a slot changes
-pub slot_again : (cs : List Tally) (u d : Slot) (more : List Tally) → SameTallies (slot_tally u) (slot_tally d ++ more)
-    → SameTallies (cs ++ slot_tally u) ((cs ++ slot_tally d) ++ more)
-slot_again cs u d more same = search (rules, append_assoc, same_more, same)
 
 -- ---- a line that isn't in its slot
 

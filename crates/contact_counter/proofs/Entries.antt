@@ -1,9 +1,8 @@
 -- Maps of occurrences: adding to the occurrences of a key, and going over the entries.
-use Rattle.std.proofs.Common.{◌≡◌, ℕ, Ordering, Less, Equal, Greater, refl, rules, ◌∙◌, Bool, cond, Option, Some, List, [], ◌∷◌, ◌++◌, ap, map, sym, Bor}
+use Rattle.std.proofs.Common.{◌≡◌, ℕ, Ordering, Less, Equal, Greater, refl, rules, ◌∙◌, ◌&&◌, Bool, true, cond, Option, Some, List, [], ◌∷◌, ◌++◌, ap, arith, map, sym, Bor}
 use Rattle.std.specs.BTreeMap.{insert_entry, is_at}
 use Rattle.std.specs.Cmp.{IsTotalOrder}
 use Rattle.std.specs.Global.{Vec}
-use Rattle.std.specs.List.{AllByRecursion}
 use Rattle.std.specs.List.Sorted.{IsStrictlySortedBy}
 use Rattle.std.specs.Map.{keys_of, lookup}
 use Rattle.std.specs.Map.Iter.{deref_pair}
@@ -13,24 +12,27 @@ use Rattle.std.proofs.lemmas.List.{map-append}
 use Rattle.std.proofs.lemmas.Map.{lookup-none}
 use Rattle.std.proofs.lemmas.Map.Entries.{none_below_head}
 use Rattle.std.proofs.lemmas.Simd.{map-map}
-use Rattle.mailmap_entries.specs.Folding.{Text, text_cmp}
-use Rattle.mailmap_entries.proofs.Folding.{equal-same}
-use Rattle.contact_counter.specs.Contacts.{Contact, Tally, both_seen, contact_cmp, seen_where}
-use Rattle.contact_counter.specs.Counts.{HasMore, SameTallies, answer_key_tally, key_tally, tally_of, with_more}
+use Rattle.std.proofs.lemmas.Map.Text.{is_eq-slice_cmp}
+use Rattle.mailmap_entries.specs.Folding.{Text}
+use Rattle.mailmap_entries.proofs.Parts.{all_map, all_mapped}
+use Rattle.contact_counter.specs.Contacts.{Contact, Tally, both_seen, contact_cmp, same_contact, seen_where}
+use Rattle.contact_counter.specs.Counts.{HasMore, SameTallies, key_tally, with_more}
 use Rattle.contact_counter.specs.declared.occurrences.Occurrences.{Occurrences}
 use Rattle.contact_counter.specs.declared.tallies.Tally.{Tally as TheTally}
 use Rattle.contact_counter.proofs.Sums.{both_swap, passing, seen-push, same_more}
-use Rattle.mailmap_entries.proofs.Keys.{both_equal}
 
 pub contact_total : IsTotalOrder contact_cmp
 contact_total = search (rules, nat_list_cmp_total, on_total, then_total)
 
-alike : (a b : Contact) → contact_cmp a b ≡ Equal → a ≡ b
-alike a b e =
-    let parts = both_equal (text_cmp a.name b.name) (text_cmp a.email b.email) e in
-    let names = equal-same a.name b.name parts.0 in
-    let emails = equal-same a.email b.email parts.1 in
-    λ i. record { name = names i; email = emails i }
+pub then_eq : (a b : Ordering) → is_eq (ordering_then a b) ≡ (is_eq a && is_eq b)
+then_eq a b = grind arith
+
+-- contacts that are the same compare so, and are equal
+pub same_by_cmp : (a b : Contact) → is_eq (contact_cmp a b) ≡ same_contact a b
+same_by_cmp a b = search (rules, is_eq-slice_cmp, then_eq)
+
+pub same_is : (a b : Contact) → same_contact a b ≡ true → a ≡ b
+same_is a b same = search rules
 
 -- ---- going over the contacts in a map
 
@@ -51,35 +53,29 @@ module _ {K : Type 0} (shown : K → Contact) where
   entry_tally e = record { contact = shown e.0; seen = e.1 }
 
   module _ (test : Contact → Bool) (k : K) (seen : Occurrences) where
-    abbrev known : List (K × Occurrences) → Option Occurrences
-    known es = lookup (is_at (key_cmp k)) es
-
     abbrev seen_in : List (K × Occurrences) → Option Occurrences
     seen_in es = seen_where test (map entry_tally es)
 
-    abbrev of_one : Contact → Occurrences → Option Occurrences
-    of_one c s = passing test (record { contact = c; seen = s })
+    abbrev of_one : K → Occurrences → Option Occurrences
+    of_one q s = passing test (entry_tally (q, s))
 
-    added_first : (e : K × Occurrences) (es : List (K × Occurrences)) → IsStrictlySortedBy key_cmp (keys_of (e ∷ es))
-        → seen_in (insert_entry key_cmp es k (with_more (known es) seen))
-        ≡ both_seen (of_one (shown k) seen) (seen_in es) → (r : Ordering) → key_cmp k e.0 ≡ r
-        → seen_in (match_ordering r ((k, with_more (cond (is_eq r) (Some e.1) (known es)) seen) ∷ e ∷ es)
-        ((e.0, with_more (cond (is_eq r) (Some e.1) (known es)) seen) ∷ es)
-        (e ∷ insert_entry key_cmp es k (with_more (cond (is_eq r) (Some e.1) (known es)) seen)))
-        ≡ both_seen (of_one (shown k) seen) (seen_in (e ∷ es))
-    added_first e es up rest Less is =
-        let none = lookup-none (is_at (key_cmp k)) es (none_below_head (on_total shown contact_total) k e es up is).1 in
-        ap (λ o. both_seen (of_one (shown k) (with_more o seen)) (seen_in (e ∷ es))) none
-    added_first e es up rest Equal is = let same : shown k ≡ shown e.0 = alike (shown k) (shown e.0) is in search rules
-    added_first e es up rest Greater is = ap (both_seen (of_one (shown e.0) e.1)) rest
-        ∙ both_swap (of_one (shown e.0) e.1) (of_one (shown k) seen) (seen_in es)
+    abbrev now : Ordering → K × Occurrences → List (K × Occurrences) → Occurrences
+    now r e es = with_more (cond (is_eq r) (Some e.1) (lookup (is_at (key_cmp k)) es)) seen
 
     added : (es : List (K × Occurrences)) → IsStrictlySortedBy key_cmp (keys_of es)
-        → seen_in (insert_entry key_cmp es k (with_more (known es) seen))
-        ≡ both_seen (of_one (shown k) seen) (seen_in es)
+        → seen_in (insert_entry key_cmp es k (with_more (lookup (is_at (key_cmp k)) es) seen)) ≡ both_seen (of_one k seen) (seen_in es)
     unfolding IsStrictlySortedBy
     added [] up = refl
-    added (e ∷ es) up = added_first e es up (added es up.1) (key_cmp k e.0) refl
+    added (e ∷ es) up = first (ap (both_seen (of_one e.0 e.1)) (added es up.1)) (key_cmp k e.0) refl
+      where
+        first : both_seen (of_one e.0 e.1) (seen_in (insert_entry key_cmp es k (with_more (lookup (is_at (key_cmp k)) es) seen)))
+            ≡ both_seen (of_one e.0 e.1) (both_seen (of_one k seen) (seen_in es)) → (r : Ordering) → key_cmp k e.0 ≡ r
+            → seen_in (match_ordering r ((k, now r e es) ∷ e ∷ es) ((e.0, now r e es) ∷ es) (e ∷ insert_entry key_cmp es k (now r e es)))
+            ≡ both_seen (of_one k seen) (seen_in (e ∷ es))
+        first rest Less is = ap (λ o. both_seen (of_one k (with_more o seen)) (seen_in (e ∷ es)))
+            (lookup-none (is_at (key_cmp k)) es (none_below_head (on_total shown contact_total) k e es up is).1)
+        first rest Equal is = let same : shown k ≡ shown e.0 = same_is (shown k) (shown e.0) (sym (same_by_cmp (shown k) (shown e.0)) ∙ ap is_eq is) in search rules
+        first rest Greater is = rest ∙ both_swap (of_one e.0 e.1) (of_one k seen) (seen_in es)
 
   -- adding to the occurrences of a key
   pub tallies_more : (es new : List (K × Occurrences)) (k : K) (seen : Occurrences) → HasMore key_cmp es k seen new
@@ -102,24 +98,19 @@ module _ {K : Type 0} (shown : K → Contact) where
       → SameTallies (map entry_tally new) (map g (map item_tally (ps ++ p ∷ [])))
   item_more g es new k ps p has same is = search (rules, entries_more, map-append, has, same)
 
-  all_keys : (k : K) (es : List (K × Occurrences)) → AllByRecursion (λ q. key_cmp k q ≡ Less) (keys_of es)
-      → AllByRecursion (λ c. contact_cmp (shown k) c ≡ Less) (map (λ (a : Tally). a.contact) (map entry_tally es))
-  all_keys k [] all = tt
-  all_keys k (e ∷ es) all = (all.0, all_keys k es all.1)
-
   -- the contacts of a map are distinct
   pub keys_once : (es : List (K × Occurrences)) → IsStrictlySortedBy key_cmp (keys_of es)
       → IsStrictlySortedBy contact_cmp (map (λ (a : Tally). a.contact) (map entry_tally es))
   unfolding IsStrictlySortedBy
   keys_once [] up = tt
-  keys_once (e ∷ es) up = (all_keys e.0 es up.0, keys_once es up.1)
+  keys_once (e ∷ es) up = (
+    all_mapped (λ a. a.contact) (λ c. contact_cmp (shown e.0) c ≡ Less) (map entry_tally es)
+        (all_mapped entry_tally (λ a. contact_cmp (shown e.0) a.contact ≡ Less) es (all_map (λ x. x.0) (λ q. key_cmp e.0 q ≡ Less) es up.0)),
+    keys_once es up.1,
+  )
 
 -- ---- answers in a map
 
 -- an answer as an entry of a map
 abbrev pub entry_of : TheTally → (Bor Text × Bor Text) × Occurrences
 entry_of a = ((a.name, a.email), a.seen)
-
-pub shown_entries : (answers : List TheTally) (es : List ((Bor Text × Bor Text) × Occurrences))
-    → map entry_of answers ≡ es → map tally_of answers ≡ map answer_key_tally es
-shown_entries answers es is = sym (map-map answer_key_tally entry_of answers) ∙ ap (map answer_key_tally) is

@@ -12,7 +12,7 @@ use Rattle.std.proofs.lemmas.List.{get_or-map, length-map, map-append}
 use Rattle.std.proofs.lemmas.List.Elements.{All-from_recursion, recursion_from_All}
 use Rattle.std.proofs.lemmas.List.Sorted.{All-permutation, IsPermutation-sym, ranks_by, sorted_far}
 use Rattle.std.proofs.Math.Seq.{take-suc}
-use Rattle.mailmap_entries.proofs.Parts.{filter-map, all_apply, all_mapped, all_weaker}
+use Rattle.mailmap_entries.proofs.Parts.{all_apply, all_mapped, all_weaker}
 
 -- one more element
 pub mapped_more : {X Y : Type 0} (f : X → Y) (xs : List X) (i : ℕ) (d : X) → i < length xs
@@ -79,6 +79,11 @@ none_before {X = X} cmp total f xs up = by xs (sorted_far (λ x y. is_lt (cmp (f
       by xs (λ i j d le lt. far (suc i) (suc j) d (omega (arith, le)) (omega (arith, lt))),
     )
 
+-- lists without their first elements, which are equal and don't come again in the second list
+only_rest : {X : Type 0} (x y : X) (xs ys : List X) → HasOnly (x ∷ xs) (y ∷ ys) → AllByRecursion (λ z. z ≡ x → ⊥) ys → HasOnly xs ys
+only_rest x y xs ys only others P all = all_apply (λ z. (z ≡ x) ⊎ P z) (λ z. z ≡ x → ⊥) P (λ z one other. ⊎_elim (λ same. absurd (other same)) (λ p. p) one)
+    ys (only (λ z. (z ≡ x) ⊎ P z) (inl refl, all_weaker xs (λ z p. inr p) all)).1 others
+
 module _ {X : Type 0} (cmp : X → X → Ordering) (total : IsTotalOrder cmp) (e : X → X → Bool) (itself : (x : X) → e x x ≡ true) where
   -- Two lists with the same elements are one if both are in order. If one is so strictly, the other needs distinct
   -- elements only.
@@ -88,21 +93,9 @@ module _ {X : Type 0} (cmp : X → X → Ordering) (total : IsTotalOrder cmp) (e
   one_order [] (y ∷ ys) up once strict to from = absurd ((to (λ _. ⊥) tt).0)
   one_order (x ∷ xs) [] up once strict to from = absurd ((from (λ _. ⊥) tt).0)
   one_order (x ∷ xs) (y ∷ ys) up once strict to from =
-      λ i. first i ∷ one_order xs ys up.1 once.1 strict.1 rest_to rest_from i
-    where
-      not_below : is_lt (cmp y x) ≡ false
-      not_below = (to (λ z. is_lt (cmp z x) ≡ false) (ap is_lt (tied_itself total x), up.0)).0
-
-      first : x ≡ y
-      first = ⊎_elim (λ same. same) (λ less. absurd (true≢false (sym (ap is_lt less) ∙ not_below)))
-          (from (λ z. (z ≡ y) ⊎ (cmp y z ≡ Less)) (inl refl, all_weaker ys (λ z less. inr less) strict.0)).0
-
-      rest_to : HasOnly xs ys
-      rest_to P all = all_apply (λ z. (z ≡ x) ⊎ P z) (λ z. cmp y z ≡ Less) P (λ z one less. ⊎_elim
-          (λ same. absurd (true≢false (sym (ap is_lt (sym (ap (cmp y) (same ∙ first)) ∙ less)) ∙ ap is_lt (tied_itself total y))))
-          (λ p. p) one) ys (to (λ z. (z ≡ x) ⊎ P z) (inl refl, all_weaker xs (λ z p. inr p) all)).1 strict.0
-
-      rest_from : HasOnly ys xs
-      rest_from P all = all_apply (λ z. (z ≡ y) ⊎ P z) (λ z. e x z ≡ false) P (λ z one other. ⊎_elim
-          (λ same. absurd (true≢false (sym (itself x) ∙ ap (e x) (first ∙ sym same) ∙ other))) (λ p. p) one)
-          xs (from (λ z. (z ≡ y) ⊎ P z) (inl refl, all_weaker ys (λ z p. inr p) all)).1 once.0
+      let not_below = (to (λ z. is_lt (cmp z x) ≡ false) (ap is_lt (tied_itself total x), up.0)).0 in
+      let first : x ≡ y = ⊎_elim (λ same. same) (λ less. absurd (true≢false (sym (ap is_lt less) ∙ not_below)))
+      (from (λ z. (z ≡ y) ⊎ (cmp y z ≡ Less)) (inl refl, all_weaker ys (λ z less. inr less) strict.0)).0 in
+      λ i. first i ∷ one_order xs ys up.1 once.1 strict.1
+      (only_rest x y xs ys to (all_weaker ys (λ z less same. true≢false (sym (ap is_lt (sym (ap (cmp y) (same ∙ first)) ∙ less)) ∙ ap is_lt (tied_itself total y))) strict.0))
+      (only_rest y x ys xs from (all_weaker xs (λ z other same. true≢false (sym (itself x) ∙ ap (e x) (first ∙ sym same) ∙ other)) once.0)) i

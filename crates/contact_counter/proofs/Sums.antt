@@ -8,21 +8,15 @@ use Rattle.contact_counter.specs.declared.occurrences.Occurrences.{Occurrences}
 seen_is : (a b c d : ℕ) → a ≡ b → c ≡ d → ◌≡◌ {A = Occurrences} (record { count = a; first_line = c }) (record { count = b; first_line = d })
 seen_is a b c d e f = λ i. record { count = e i; first_line = f i }
 
-pub sum_assoc : (a b c : Occurrences) → sum_of (sum_of a b) c ≡ sum_of a (sum_of b c)
-sum_assoc a b c = search rules
-
-pub sum_comm : (a b : Occurrences) → sum_of a b ≡ sum_of b a
-sum_comm a b = search (rules, seen_is)
-
 pub both_none : (a : Option Occurrences) → both_seen a None ≡ a
 both_none None = refl
 both_none (Some a) = refl
 
 pub both_assoc : (a b c : Option Occurrences) → both_seen (both_seen a b) c ≡ both_seen a (both_seen b c)
-both_assoc a b c = search (rules, sum_assoc)
+both_assoc a b c = search rules
 
 pub both_comm : (a b : Option Occurrences) → both_seen a b ≡ both_seen b a
-both_comm a b = search (rules, both_none, sum_comm)
+both_comm a b = search (rules, both_none, seen_is)
 
 -- the second of three goes to the front
 pub both_swap : (a b c : Option Occurrences) → both_seen a (both_seen b c) ≡ both_seen b (both_seen a c)

@@ -1,25 +1,25 @@
 -- Each distinct contact of a history once, with all its occurrences.
-use Rattle.std.proofs.Common.{◌≡◌, ◌∙◌, ◌+◌, ◌<◌, ℕ, Bool, true, false, cond, Option, None, Some, List, [], ◌∷◌, ◌++◌, Ordering, Less, ap, arith, filter, map, refl, subst, sym, unwrap_or, ⊎_elim, rules}
+use Rattle.std.proofs.Common.{◌≡◌, ◌∙◌, ◌+◌, ◌<◌, ℕ, Bool, true, false, cond, Option, None, Some, List, [], ◌∷◌, Ordering, Less, ap, arith, filter, map, refl, subst, sym, unwrap_or, ⊎_elim, rules}
 use Rattle.std.specs.Prelude.{IfSome, ◌&&◌, is_some, not}
 use Rattle.std.specs.Cmp.{IsTotalOrder}
 use Rattle.std.specs.List.{AllByRecursion, Contains, IsDistinct}
 use Rattle.std.specs.List.Sorted.{IsPermutation, IsStrictlySortedBy}
 use Rattle.std.specs.Map.{keys_of}
-use Rattle.std.specs.Ordering.{is_eq, nat_cmp, on, ordering_then}
+use Rattle.std.specs.Ordering.{is_eq, nat_cmp, on}
 use Rattle.std.proofs.lemmas.Bool.{cases_Bool, not-true}
 use Rattle.std.proofs.lemmas.Bool.Decides.{nat_tests}
 use Rattle.std.proofs.lemmas.Cmp.{eq_by_cmp_equiv, nat_cmp_total, nat_list_eq_equiv, on_total}
 use Rattle.std.proofs.lemmas.List.Elements.{All-contains, All-contains_itself, All-from_recursion, All-weaker, filter_passes, recursion_from_All}
 use Rattle.std.proofs.lemmas.List.Kept.{IsStrictlySortedBy-filter}
 use Rattle.std.proofs.lemmas.Map.Keys.{IsDistinct-IsPermutation}
-use Rattle.std.proofs.lemmas.Map.Text.{is_eq-slice_cmp}
 use Rattle.std.proofs.lemmas.Grind.{common_steps}
 use Rattle.mailmap_entries.specs.Folding.{Text}
 use Rattle.mailmap_entries.proofs.Parts.{all_apply, all_map, all_mapped, all_weaker}
 use Rattle.contact_counter.specs.Contacts.{AreTallies, Contact, Tally, both_seen, contact_cmp, contacts_from, once, same_contact, seen_where, tallied}
 use Rattle.contact_counter.specs.Counts.{SameTallies}
 use Rattle.contact_counter.specs.declared.occurrences.Occurrences.{Occurrences}
-use Rattle.contact_counter.proofs.Entries.{contact_total, entry_tally, key_cmp, keys_once}
+pub use Rattle.contact_counter.proofs.Entries.{then_eq}
+use Rattle.contact_counter.proofs.Entries.{contact_total, entry_tally, key_cmp, keys_once, same_by_cmp, same_is}
 use Rattle.contact_counter.proofs.Steps.{HasOnly, NoneBefore, all_filtered, all_unfiltered, distinct_filter, one_order, permuted, permuted_back}
 
 abbrev contact_of : Tally → Contact
@@ -33,13 +33,6 @@ tally c s = record { contact = c; seen = s }
 
 -- ---- contacts that are the same
 
-pub then_eq : (a b : Ordering) → is_eq (ordering_then a b) ≡ (is_eq a && is_eq b)
-then_eq a b = grind arith
-
--- they compare so
-same_by_cmp : (a b : Contact) → is_eq (contact_cmp a b) ≡ same_contact a b
-same_by_cmp a b = search (rules, is_eq-slice_cmp, then_eq)
-
 abbrev pub same : Tally → Tally → Bool
 same a b = same_contact a.contact b.contact
 
@@ -49,13 +42,7 @@ turned a b = search (rules, contact_total, eq_by_cmp_equiv, same_by_cmp)
 pub itself : (c : Contact) → same_contact c c ≡ true
 itself c = λ i. nat_list_eq_equiv.refl c.name i && nat_list_eq_equiv.refl c.email i
 
-same_is : (a b : Contact) → same_contact a b ≡ true → a ≡ b
-same_is a b same = search rules
-
 -- ---- the occurrences of one contact
-
-pub own_first : (t : Tally) (ts : List Tally) → of t.contact (t ∷ ts) ≡ both_seen (Some t.seen) (of t.contact ts)
-own_first t ts = ap (λ b. both_seen (cond b (Some t.seen) None) (of t.contact ts)) (itself t.contact)
 
 not_first : (c : Contact) (t : Tally) (ts : List Tally) → same_contact c t.contact ≡ false → of c (t ∷ ts) ≡ of c ts
 not_first c t ts other = ap (λ b. both_seen (cond b (Some t.seen) None) (of c ts)) other
@@ -99,24 +86,22 @@ own (t ∷ ts) once = search (rules, own ts once.1, none_of, all_apply)
 abbrev IsAmong : List Tally → Contact → Type 0
 IsAmong us c = Contains (map contact_of us) c
 
-among_itself : (us : List Tally) → AllByRecursion (λ u. IsAmong us u.contact) us
-among_itself us = all_map contact_of (IsAmong us) us (recursion_from_All (IsAmong us) (map contact_of us) (All-contains_itself (map contact_of us)))
-
--- distinct contacts with the occurrences of a list are its tallies
-pub are_tallies : (ts us : List Tally) → SameTallies us ts → IsStrictlySortedBy contact_cmp (map contact_of us) → AreTallies ts us
-are_tallies ts us same up = record {
-  every = λ t among. at_seen (IsAmong us) t.contact us (among_itself us)
-      (ap is_some (same (same_contact t.contact)) ∙ All-contains (λ t. is_some (of t.contact ts) ≡ true) ts t (All-from_recursion (λ t. is_some (of t.contact ts) ≡ true) ts (each_comes ts)) among);
-  each = all_weaker us (λ u is. sym (same (same_contact u.contact)) ∙ is) (own us (sorted_distinct us up));
-  distinct = up;
-}
-
 -- the entries of a map are the tallies of what has their occurrences
 pub map_tallies : {K : Type 0} (shown : K → Contact) (es : List (K × Occurrences)) (ts us : List Tally)
     → IsStrictlySortedBy (key_cmp shown) (keys_of es)
     → us ≡ map (entry_tally shown) es → SameTallies (map (entry_tally shown) es) ts → AreTallies ts us
-map_tallies shown es ts us up is same =
-    subst (AreTallies ts) (sym is) (are_tallies ts (map (entry_tally shown) es) same (keys_once shown es up))
+map_tallies shown es ts us up is same = subst (AreTallies ts) (sym is) (record {
+  every = λ t among. at_seen (IsAmong all) t.contact all (all_map contact_of (IsAmong all) all (recursion_from_All (IsAmong all) (map contact_of all) (All-contains_itself (map contact_of all))))
+      (ap is_some (same (same_contact t.contact)) ∙ All-contains (λ t. is_some (of t.contact ts) ≡ true) ts t (All-from_recursion (λ t. is_some (of t.contact ts) ≡ true) ts (each_comes ts)) among);
+  each = all_weaker all (λ u is. sym (same (same_contact u.contact)) ∙ is) (own all (sorted_distinct all distinct));
+  distinct = distinct;
+})
+  where
+    all : List Tally
+    all = map (entry_tally shown) es
+
+    distinct : IsStrictlySortedBy contact_cmp (map contact_of all)
+    distinct = keys_once shown es up
 
 -- `us` has all occurrences of each contact of `ts`
 pub record HasTallies (ts us : List Tally) : Type 1 where
@@ -157,14 +142,10 @@ each_untallied P (t ∷ ts) all = (
       (all_unfiltered (λ u. not (same t u)) (λ u. P u.contact) (tallied ts) all.1)),
 )
 
--- what the head has there
-head_is : (t : Tally) (ts : List Tally) → of t.contact (t ∷ ts) ≡ Some (unwrap_or (of t.contact (t ∷ ts)) t.seen)
-head_is t ts = search rules
-
 tallied_each : (ts : List Tally) → AllByRecursion (λ u. of u.contact ts ≡ Some u.seen) (tallied ts)
 tallied_each [] = tt
 tallied_each (t ∷ ts) = (
-  head_is t ts,
+  search rules,
   all_filtered (λ u. not (same t u)) (λ u. of u.contact ts ≡ Some u.seen) (λ u. of u.contact (t ∷ ts) ≡ Some u.seen)
       (λ u is other. not_first u.contact t ts (turned u t ∙ not-true (same t u) other) ∙ is) (tallied ts) (tallied_each ts),
 )
@@ -215,7 +196,7 @@ unfolding IsStrictlySortedBy
 tallied_ascend [] up = tt
 tallied_ascend (t ∷ ts) up =
     let line : (unwrap_or (of t.contact (t ∷ ts)) t.seen).first_line ≡ t.seen.first_line =
-    ap (λ o. (unwrap_or o t.seen).first_line) (own_first t ts) ∙ first_stays t (of t.contact ts) (of_later t.seen.first_line t.contact ts up.0) in (
+    ap (λ b. (unwrap_or (both_seen (cond b (Some t.seen) None) (of t.contact ts)) t.seen).first_line) (itself t.contact) ∙ first_stays t (of t.contact ts) (of_later t.seen.first_line t.contact ts up.0) in (
       subst (λ n. AllByRecursion (Later n) (filter (λ u. not (same t u)) (tallied ts))) (sym line)
           (all_filtered (λ u. not (same t u)) (Later t.seen.first_line) (Later t.seen.first_line) (λ u later _. later) (tallied ts) (tallied_later t.seen.first_line ts up.0)),
       IsStrictlySortedBy-filter line_cmp (λ u. not (same t u)) (tallied ts) (tallied_ascend ts up.1),
@@ -231,8 +212,5 @@ contacts_ascend n [] = tt
 contacts_ascend n (l ∷ ls) = grind (arith, common_steps, contacts_ascend (n + 1) ls, contacts_later n (n + 1) ls)
 
 -- the contacts on lines, each once
-pub history_ascends : (lines : List Text) → Ascend (tallied (contacts_from 1 lines))
-history_ascends lines = tallied_ascend (contacts_from 1 lines) (contacts_ascend 1 lines)
-
 pub sorted_tallies : (lines : List Text) (us vs : List Tally) → AreTallies (contacts_from 1 lines) us → IsPermutation us vs → NoneBefore line_cmp vs → vs ≡ tallied (contacts_from 1 lines)
-sorted_tallies lines us vs are moved up = search (rules, one_list, on_total, nat_cmp_total, history_ascends)
+sorted_tallies lines us vs are moved up = search (rules, one_list, on_total, nat_cmp_total, tallied_ascend, contacts_ascend)

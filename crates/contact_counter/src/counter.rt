@@ -209,10 +209,7 @@ fn empty_slots(alloc: Global) -> Result<Vec<Slot>, AllocError>
     for _ in 0..SLOTS {
         slots.push(Slot {
             line: Vec::new(alloc),
-            seen: Occurrences {
-                count: 0,
-                first_line: 0,
-            },
+            seen: once_on(0),
         })?;
     }
     Ok(slots)

@@ -1,7 +1,5 @@
 //! Contacts and answers with their occurrences.
 ghost use Rattle.std.specs.Prelude.{◌≡◌, IfOk, List, map};
-ghost use Rattle.std.specs.List.Sorted.{IsPermutation, IsSortedByKey};
-ghost use Rattle.std.specs.Ordering.{nat_cmp};
 ghost use Rattle.mailmap_entries.specs.Folding.{Text};
 ghost use Rattle.contact_counter.specs.Contacts as contacts;
 ghost use Rattle.contact_counter.specs.Contacts.{AreTallies, contacts_from, tallied};
@@ -34,16 +32,9 @@ impl Contacts {
                 seen: *seen,
             })?;
         }
-        sort_by_first_line(&mut all);
+        all.sort_unstable_by_key(|tally| tally.seen.first_line);
         Ok(all)
     }
-}
-
-fn sort_by_first_line(tallies: &mut Vec<Tally<'_>>)
-    ensures whole { IsPermutation tallies.old.items tallies.new.items }
-    ensures in_order { IsSortedByKey (λ t. t.seen.first_line) nat_cmp tallies.new.items }
-{
-    tallies.sort_unstable_by_key(|tally| tally.seen.first_line);
 }
 
 /// The answers in a map, sorted by name and email.

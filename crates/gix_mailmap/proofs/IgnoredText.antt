@@ -5,24 +5,13 @@ use Rattle.std.specs.Str.{encode_utf8_all}
 use Rattle.mailmap_entries.specs.Entries.{Mapping}
 use Rattle.mailmap_entries.specs.Folding.{Text}
 use Rattle.mailmap_grammar.specs.Lines.{Absent, Closed, IsComment, IsContact, IsSecondReadStrictly, IsUnclosed, NoContact, Reading, Unclosed, after_second, as_lenient, blank, blank_email, by_both, by_name, comment, cut, first, name_alone, neither, no_bracket, non_blank, open_first, open_second, second, strict_reading}
-use Rattle.mailmap_grammar.specs.Trimming.{AreWhite, EndsWhite, IsTrimmed, trim}
+use Rattle.mailmap_grammar.specs.Trimming.{EndsWhite, IsTrimmed, trim}
 use Rattle.mailmap_grammar.proofs.Cut.{cut-absent, cut-cut_at_closing, cut-unclosed}
 use Rattle.mailmap_grammar.proofs.Grammar.{strict_reading-made, strict_reading-same}
-use Rattle.mailmap_grammar.proofs.Trimmed.{trim-white_end, trim-white_start, trimmed-made, trimmed-same}
+use Rattle.mailmap_grammar.proofs.Trimmed.{trim-whites_end, trim-whites_start, trimmed-made, trimmed-same}
 use Rattle.mailmap_findings.specs.Findings.{ignored}
 use Rattle.gix_mailmap.specs.IgnoredText.{ReadsWithoutIgnored}
 use Rattle.mailmap_snapshot.proofs.WhiteEnds.{BeginsWhite-trimmed, EndsWhite-ascii, trim-nil, trim-stays, trim-trim}
-
--- ---- white space at both ends
-
-white_start : (cs : List ℕ) (s : Text) → AreWhite cs → trim (encode_utf8_all cs ++ s) ≡ trim s
-white_start [] s all = refl
-white_start (c ∷ cs) s all = ap trim (append_assoc (encode_utf8 c) (encode_utf8_all cs) s) ∙ trim-white_start c (encode_utf8_all cs ++ s) all.0 ∙ white_start cs s all.1
-
-white_end : (cs : List ℕ) (s : Text) → AreWhite cs → trim (s ++ encode_utf8_all cs) ≡ trim s
-white_end [] s all = ap trim (append-nil s)
-white_end (c ∷ cs) s all =
-    ap trim (sym (append_assoc s (encode_utf8 c) (encode_utf8_all cs))) ∙ white_end cs (s ++ encode_utf8 c) all.1 ∙ trim-white_end c s all.0
 
 -- ---- a line split into what counts and the rest
 
@@ -67,11 +56,11 @@ without line a u k rest parts closed =
       front = front;
       back = back;
       whole = whole;
-      blank = white_end outer.2.white v2 outer.2.are_white ∙ white_end inner.2.white [] inner.2.are_white ∙ trim-nil;
+      blank = trim-whites_end outer.2.white v2 outer.2.are_white ∙ trim-whites_end inner.2.white [] inner.2.are_white ∙ trim-nil;
       comment = λ h. subst IsComment (sym whole) (rw first (same_comment (w1 ++ a) (u ++ v1) back (trim rest ++ back) 60 (rw first at h)));
-      left = ap trim sides ∙ white_start outer.1.white (((counts ++ v1) ++ v2) ++ w2) outer.1.are_white
-          ∙ white_end outer.2.white ((counts ++ v1) ++ v2) outer.2.are_white
-          ∙ white_end inner.2.white (counts ++ v1) inner.2.are_white ∙ white_end inner.1.white counts inner.1.are_white
+      left = ap trim sides ∙ trim-whites_start outer.1.white (((counts ++ v1) ++ v2) ++ w2) outer.1.are_white
+          ∙ trim-whites_end outer.2.white ((counts ++ v1) ++ v2) outer.2.are_white
+          ∙ trim-whites_end inner.2.white (counts ++ v1) inner.2.are_white ∙ trim-whites_end inner.1.white counts inner.1.are_white
           ∙ stays line a u k rest parts closed;
     }
   where

@@ -36,15 +36,8 @@ module _ {X : Type 0} where
     rest = q.rest ∙ later mid (length t) end m a q.until p.rest;
   }
 
-  -- a single element
-  pub after_set : (xs : List X) (index : ℕ) (x : X) → index < length xs → IsAfter (x ∷ []) index xs (set xs index x) (index + 1)
-  after_set xs index x lt = record {
-    until = refl;
-    front = take_more_set xs index x lt;
-    rest = drop-set-lt (index + 1) xs index x (omega arith);
-  }
-
   -- one more element
   pub copied_next : {left rest all : List X} {x : X} {index : ℕ} {now old : List X} → left ≡ x ∷ rest → index < length now → Copied left all index now old → Copied rest all (index + 1) (set now index x) old
   copied_next {rest = rest} {all = all} {x = x} {index = index} {now = now} {old = old} is lt c =
-      copied_more (x ∷ []) rest all index (index + 1) now (set now index x) old (subst (λ l. Copied l all index now old) is c) (after_set now index x lt)
+      copied_more (x ∷ []) rest all index (index + 1) now (set now index x) old (subst (λ l. Copied l all index now old) is c)
+      (record { until = refl; front = take_more_set now index x lt; rest = drop-set-lt (index + 1) now index x (omega arith) })

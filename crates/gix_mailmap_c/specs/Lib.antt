@@ -5,5 +5,4 @@ pub mod Handles
 pub mod Listed
 pub mod Findings
 pub mod Streamed
-pub mod StreamCalls
 pub mod Several

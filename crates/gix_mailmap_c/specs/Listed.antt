@@ -3,21 +3,13 @@ use Rattle.std.specs.Prelude.{◌≡◌, ◌+◌, ◌<◌, ◌⊎◌, ◌++◌, 
 use Rattle.std.specs.List.{flat_map}
 use Rattle.mailmap_entries.specs.Entries.{Mapping}
 use Rattle.mailmap_entries.specs.Folding.{Text}
-use Rattle.mailmap_entries.specs.Semantics.{Fields}
-use Rattle.gix_mailmap_c.specs.Buffers.{ArePut, IsWrittenOrShort}
+use Rattle.gix_mailmap_c.specs.Buffers.{IsWrittenOrShort}
 use Rattle.gix_mailmap_c.specs.declared.listing.Listed.{Listed}
 use Rattle.gix_mailmap_c.specs.declared.lookup.Field.{Field}
 
 -- the length of a text, or of the other one that is used if it is missing, and whether it is there
-pub record IsDescribed (given : Option Text) (other : Text) (described : Field) : Type 0 where
-  pub len : described.len ≡ length (unwrap_or given other)
-  pub is_given : described.is_given ≡ is_some given
-
--- the mailmap's fields, or the caller's where it sets none, are copied into two buffers
-pub record IsAnswered (f : Fields) (name email name_before name_after email_before email_after : Text) (status : ℕ)
-    : Type 0 where
-  pub put :
-      ArePut (unwrap_or f.name name) name_before name_after (unwrap_or f.email email) email_before email_after status
+abbrev pub field_of : Option Text → Text → Field
+field_of t other = record { len = length (unwrap_or t other); is_given = is_some t }
 
 -- a missing text is empty
 abbrev pub text_or_empty : Option Text → Text
@@ -30,18 +22,14 @@ entry_texts m = text_or_empty m.new_name ++ text_or_empty m.new_email ++ text_or
 abbrev pub all_texts : List Mapping → Text
 all_texts ms = flat_map entry_texts ms
 
--- the length of a text, and whether it is there
-abbrev pub field_of : Option Text → Field
-field_of t = record { len = length (text_or_empty t); is_given = is_some t }
-
 -- an entry whose texts start at this offset
 abbrev pub listed_at : ℕ → Mapping → Listed
 listed_at start m = record {
   start = start;
-  new_name = field_of m.new_name;
-  new_email = field_of m.new_email;
-  old_name = field_of m.old_name;
-  old_email = field_of (Some m.old_email);
+  new_name = field_of m.new_name [];
+  new_email = field_of m.new_email [];
+  old_name = field_of m.old_name [];
+  old_email = field_of (Some m.old_email) [];
 }
 
 -- entries whose texts follow one another from this offset on

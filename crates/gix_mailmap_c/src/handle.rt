@@ -13,6 +13,7 @@ use crate::held::{
 };
 use crate::status::{NOT_AN_ENTRY, OK, OPEN, OUT_OF_MEMORY, UNWRITABLE};
 use mailmap_entries::Entry;
+use mailmap_grammar::contacts::change_by_both;
 use mailmap_snapshot::Snapshot;
 use mailmap_snapshot::snapshot::{Source, WriteError};
 use std::alloc::Global;
@@ -148,12 +149,5 @@ fn entry_of<'a>(
         }
         return Some(Entry::change_name_by_email(new_name, old_email));
     }
-    Some(match (new_name.is_empty(), old_name.is_empty()) {
-        (true, true) => Entry::change_email_by_email(new_email, old_email),
-        (true, false) => Entry::change_email_by_name_and_email(new_email, old_name, old_email),
-        (false, true) => Entry::change_name_and_email_by_email(new_name, new_email, old_email),
-        (false, false) => Entry::change_name_and_email_by_name_and_email(
-            new_name, new_email, old_name, old_email,
-        ),
-    })
+    Some(change_by_both(new_name, new_email, old_name, old_email))
 }

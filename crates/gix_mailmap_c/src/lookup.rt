@@ -1,9 +1,10 @@
 //! Looks up a name and an email in a handle's mailmap.
-ghost use Rattle.std.specs.Prelude.{◌≡◌, IfSome, IfNone, is_some, length, unwrap_or};
+ghost use Rattle.std.specs.Prelude.{◌≡◌, [], IfSome, IfNone, unwrap_or};
 ghost use Rattle.std.specs.Option.{option_copied};
 ghost use Rattle.mailmap_entries.specs.Semantics.{fields_for};
+ghost use Rattle.gix_mailmap_c.specs.Buffers.{ArePut};
 ghost use Rattle.gix_mailmap_c.specs.Handles.{content_of, handle_listing};
-ghost use Rattle.gix_mailmap_c.specs.Listed.{field_of, IsAnswered, IsDescribed};
+ghost use Rattle.gix_mailmap_c.specs.Listed.{field_of};
 
 use crate::buffers::put_both;
 use crate::held::{Handle, held_in};
@@ -22,15 +23,14 @@ impl Field {
     /// that the padding between the fields isn't written.
     #[inline(always)]
     pub(crate) fn describe(&mut self, given: Option<&[u8]>, other: &[u8])
-        ensures len { self.new.len ≡ length (unwrap_or (option_copied given.entry) other.now) }
-        ensures is_given { self.new.is_given ≡ is_some (option_copied given.entry) }
+        ensures { self.new ≡ field_of (option_copied given.entry) other.now }
     {
         self.len = given.unwrap_or(other).len();
         self.is_given = given.is_some();
     }
 
     pub(crate) fn of_optional(text: Option<&[u8]>) -> Field
-        ensures { result ≡ field_of (option_copied text.entry) }
+        ensures { result ≡ field_of (option_copied text.entry) [] }
     {
         Field {
             len: text.unwrap_or(&[]).len(),
@@ -57,10 +57,10 @@ pub extern "C" fn gix_mailmap_handle_lookup(
 ) -> u32
     ensures unchanged { content_of m.new ≡ content_of m.old }
     ensures described { IfSome (handle_listing m.old) (λ n. let f = fields_for n name.now email.now in
-        IsDescribed f.name name.now name_field.new × IsDescribed f.email email.now email_field.new) }
-    ensures answer { IfSome (handle_listing m.old) (λ n.
-        IsAnswered (fields_for n name.now email.now) name.now email.now name_out.old name_out.new
-        email_out.old email_out.new result) }
+        (name_field.new ≡ field_of f.name name.now) × (email_field.new ≡ field_of f.email email.now)) }
+    ensures answer { IfSome (handle_listing m.old) (λ n. let f = fields_for n name.now email.now in
+        ArePut (unwrap_or f.name name.now) name_out.old name_out.new
+        (unwrap_or f.email email.now) email_out.old email_out.new result) }
     ensures closed { IfNone (handle_listing m.old)
         ((result ≡ 6) × (name_out.new ≡ name_out.old) × (name_field.new ≡ name_field.old)
         × (email_out.new ≡ email_out.old) × (email_field.new ≡ email_field.old)) }
@@ -87,10 +87,11 @@ fn answer(
     email_out: &mut [u8],
     email_field: &mut Field,
 ) -> u32
-    ensures name { IsDescribed (fields_for snapshot.now name.now email.now).name name.now name_field.new }
-    ensures email { IsDescribed (fields_for snapshot.now name.now email.now).email email.now email_field.new }
-    ensures answer { IsAnswered (fields_for snapshot.now name.now email.now) name.now email.now name_out.old
-        name_out.new email_out.old email_out.new result }
+    ensures name { name_field.new ≡ field_of (fields_for snapshot.now name.now email.now).name name.now }
+    ensures email { email_field.new ≡ field_of (fields_for snapshot.now name.now email.now).email email.now }
+    ensures answer { let f = fields_for snapshot.now name.now email.now in
+        ArePut (unwrap_or f.name name.now) name_out.old name_out.new
+        (unwrap_or f.email email.now) email_out.old email_out.new result }
 {
     let (found_name, found_email) = found(snapshot, name, email);
     name_field.describe(found_name, name);

@@ -1,12 +1,12 @@
 //! A stream of contacts that C opens, feeds with contacts in parts, reads answers from, and closes.
 ghost use Rattle.std.specs.Prelude.{◌≡◌, None, MatchOption};
-ghost use Rattle.gix_mailmap_c.specs.Handles.{content_of, Holds, LeavesHandle, Opens};
+ghost use Rattle.gix_mailmap_c.specs.Handles.{content_of, pending, Finishes, Holds, LeavesHandle, Opens, Pushes};
 ghost use Rattle.gix_mailmap_c.specs.Streamed.{AreTaken, IsNew};
-ghost use Rattle.gix_mailmap_c.specs.StreamCalls.{pending, Finishes, Pushes};
 ghost use Rattle.gix_mailmap_c.specs.declared.held.Content.TheVariants.{Stream};
 
 pub mod contacts;
 
+use crate::buffers::out_of_memory;
 use crate::handle::{close, open};
 use crate::held::{Content, Handle, held_in, is_open};
 use crate::status::{OK, OPEN, OUT_OF_MEMORY};
@@ -54,10 +54,7 @@ pub extern "C" fn gix_mailmap_stream_handle_push(
             *taken = count;
             OK
         }
-        Err(_) => {
-            *taken = 0;
-            OUT_OF_MEMORY
-        }
+        Err(_) => out_of_memory(taken),
     }
 }
 

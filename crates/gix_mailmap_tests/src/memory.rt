@@ -41,32 +41,22 @@ fn assert_given_up<R: Files + AllocGlobal + Abort>(
     Ok(())
 }
 
-fn four_emails(name: &[u8]) -> [Entry<'_>; 4] {
-    [
-        Entry::change_name_by_email(name, b"a@x"),
-        Entry::change_name_by_email(name, b"b@x"),
-        Entry::change_name_by_email(name, b"c@x"),
-        Entry::change_name_by_email(name, b"d@x"),
-    ]
-}
-
-fn four_names(email: &[u8]) -> [Entry<'_>; 4] {
-    [
-        Entry::change_email_by_name_and_email(email, b"A", b"a@x"),
-        Entry::change_email_by_name_and_email(email, b"B", b"a@x"),
-        Entry::change_email_by_name_and_email(email, b"C", b"a@x"),
-        Entry::change_email_by_name_and_email(email, b"D", b"a@x"),
-    ]
-}
-
 static NAME: [u8; 260_000] = [b'N'; 260_000];
 
 /// Merges of one entry, which is put in place, of a few entries, and of many, of which new tables are built.
 #[test]
 fn replaced_texts_are_given_up(rt: HostRuntime) -> Result<(), Fail> {
     let one = [Entry::change_name_by_email(&NAME, b"a@x")];
-    let emails = four_emails(&NAME[..65_000]);
-    let names = four_names(&NAME[..65_000]);
+    let quarter = &NAME[..65_000];
+    let emails = ["a@x", "b@x", "c@x", "d@x"].map(|email| Entry::change_name_by_email(
+        quarter,
+        email.as_bytes(),
+    ));
+    let names = ["A", "B", "C", "D"].map(|name| Entry::change_email_by_name_and_email(
+        quarter,
+        name.as_bytes(),
+        b"a@x",
+    ));
     let mut copies = Vec::new(rt.alloc());
     assert_given_up(&rt, &one, &one, false, &mut copies)?;
     assert_given_up(&rt, &emails, &emails[1..2], false, &mut copies)?;

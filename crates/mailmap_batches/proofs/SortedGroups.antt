@@ -1,5 +1,5 @@
 -- A batch that is sorted by prefix, and then within each group of entries with the same prefix: `group_sorted` is for the
--- loop of `sorted_groups`, `sorted_by_names` and `sorted_by_keys` are for `sort_group`, and `sorted_from` for `sorted`.
+-- loop of `sorted_groups`, `by_names` for `sort_group`, and `sorted_from` for `sorted`.
 use Rattle.std.proofs.Common.{◌≡◌, ◌<◌, ◌≤◌, ◌-◌, ◌+◌, ℕ, Bool, true, false, List, [], ◌∷◌, ◌++◌}
 use Rattle.std.proofs.Common.{All, map, take, drop, get_or, length, Option, Ordering, Equal, Greater, refl, sym}
 use Rattle.std.proofs.Common.{ap, ap₂, subst, subst₂, ◌∙◌, arith, length-drop}
@@ -111,6 +111,11 @@ group_sorted xs ys group a e lt le bytes ascending greater before sorted =
       apart = rises_at xs e (omega (arith, lt)) le bytes ascending greater;
     }
 
+pub one_sorted : (xs : List IndexedEntry) → length xs ≡ 1 → IsSortedFrom xs xs
+one_sorted [] e = absurd (omega (arith, e))
+one_sorted (x ∷ []) e = record { moved = IsPermutation-refl (x ∷ []); keyed = λ k. refl; ascending = (tt, tt) }
+one_sorted (x ∷ y ∷ xs) e = absurd (omega (arith, e))
+
 pub none_sorted : (xs : List IndexedEntry) → IsSortedTo 0 xs []
 none_sorted xs = record {
   sorted = record { moved = IsPermutation-refl []; keyed = λ k. refl; ascending = tt };
@@ -128,9 +133,6 @@ sorted_after xs ys zs moved keyed s = record {
 
 -- ---- stable sorts
 
-abbrev pub by_key : IndexedEntry → IndexedEntry → Bool
-by_key p q = is_lt (key_cmp (key_at p) (key_at q))
-
 -- a stable sort by what the key tells keeps the entries of each key
 pub keyed_by : {K : Type 0} {R : K → K → Ordering} (o : IsTotalOrder R) (by : IndexedEntry → K)
     → ((p q : IndexedEntry) → key_at p ≡ key_at q → by p ≡ by q) → (old new : List IndexedEntry)
@@ -141,58 +143,23 @@ keyed_by {K} {R} o by told =
     tied : (p q : IndexedEntry) → by p ≡ by q → ties (λ p q. is_lt (R (by p) (by q))) p q ≡ true
     tied p q e = let same = tied_itself o (by p) in grind arith
 
-pub ascending_by : {K : Type 0} {R : K → K → Ordering} (o : IsTotalOrder R) (by : IndexedEntry → K)
-    → (xs : List IndexedEntry) → IsSortedByKey by R xs → IsAscending R (map by xs)
-ascending_by {K} {R} o by xs sorted =
-    ascending_from R by xs (λ i j d le lt. sorted_far _ (ranks_by o by) xs sorted i j d le lt)
-
-pub sorted_by_keys : (old new : List IndexedEntry) → IsPermutation old new → IsSortedByKey key_at key_cmp new
-    → IsStableByKey key_at key_cmp old new → IsSortedFrom old new
-sorted_by_keys old new moved sorted stable = record {
-  moved = moved;
-  keyed = keyed_by keys_total key_at (λ p q e. e) old new stable;
-  ascending = ascending_by keys_total key_at new sorted;
-}
+pub ascending_by_key : (xs : List IndexedEntry) → IsSortedByKey key_at key_cmp xs
+    → IsAscending key_cmp (map key_at xs)
+ascending_by_key xs sorted = ascending_from key_cmp key_at xs (sorted_far _ (ranks_by keys_total key_at) xs sorted)
 
 -- ---- the entries of one email, by name
 
 abbrev pub name_at : IndexedEntry → Option Text
 name_at p = (key_at p).1
 
-abbrev has : Text → IndexedEntry → Type 0
-has email p = email_text (mapping_at p) ≡ email
-
-names_ascend : (email : Text) (xs : List IndexedEntry) → AllByRecursion (has email) xs
-    → IsAscending (option_cmp text_cmp) (map name_at xs) → IsAscending key_cmp (map key_at xs)
-names_ascend email [] a s = tt
-names_ascend email (x ∷ xs) a s = (each xs a.1 s.0, names_ascend email xs a.1 s.1)
-  where
-    each : (ys : List IndexedEntry) → AllByRecursion (has email) ys
-        → AllByRecursion (λ n. is_lt (option_cmp text_cmp n (name_at x)) ≡ false) (map name_at ys)
-        → AllByRecursion (λ k. is_lt (key_cmp k (key_at x)) ≡ false) (map key_at ys)
-    each [] b t = tt
-    each (y ∷ ys) b t =
-        let same : text_cmp (email_text (mapping_at y)) (email_text (mapping_at x)) ≡ Equal =
-        ap₂ text_cmp b.0 a.0 ∙ tied_itself nat_list_cmp_total email in
-        (ap (λ o. is_lt (ordering_then o (option_cmp text_cmp (name_at y) (name_at x)))) same ∙ t.0, each ys b.1 t.1)
-
-pub sorted_by_names : (old new : List IndexedEntry) (email : Text)
-    → AllByRecursion (has email) old → IsPermutation old new
-    → IsSortedByKey name_at (option_cmp text_cmp) new → IsStableByKey name_at (option_cmp text_cmp) old new
-    → IsSortedFrom old new
-sorted_by_names old new email one moved sorted stable =
-    let o : IsTotalOrder (option_cmp text_cmp) = options_total nat_list_cmp_total in
-    record {
-      moved = moved;
-      keyed = keyed_by o name_at (λ p q e. ap (λ k. k.1) e) old new stable;
-      ascending = names_ascend email new (recursion_from_All (has email) new
-          (All-permutation (has email) old new moved (All-from_recursion (has email) old one))) (ascending_by o name_at new sorted);
-    }
-
-pub one_sorted : (xs : List IndexedEntry) → length xs ≡ 1 → IsSortedFrom xs xs
-one_sorted [] e = absurd (omega (arith, e))
-one_sorted (x ∷ []) e = record { moved = IsPermutation-refl (x ∷ []); keyed = λ k. refl; ascending = (tt, tt) }
-one_sorted (x ∷ y ∷ xs) e = absurd (omega (arith, e))
+pub by_names : (email : Text) (xs : List IndexedEntry) → All (λ p. email_text (mapping_at p) ≡ email) xs
+    → IsSortedByKey name_at (option_cmp text_cmp) xs → IsSortedByKey key_at key_cmp xs
+by_names email xs one sorted k d low lt =
+    let p = get_or xs k d in
+    let q = get_or xs (k + 1) d in
+    let tied : text_cmp (email_text (mapping_at q)) (email_text (mapping_at p)) ≡ Equal =
+    ap₂ text_cmp (one (k + 1) d lt) (one k d (omega arith)) ∙ tied_itself nat_list_cmp_total email in
+    ap (λ o. is_lt (ordering_then o (option_cmp text_cmp (name_at q) (name_at p)))) tied ∙ sorted k d low lt
 
 -- ---- all entries
 

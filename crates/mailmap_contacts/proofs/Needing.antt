@@ -1,5 +1,5 @@
 -- The lines that contacts need, whether these come from lines or from a map.
-use Rattle.std.proofs.Common.{◌≡◌, ◌+◌, ℕ, Bool, true, false, cond, Option, None, Some, List, [], ◌∷◌, ◌++◌, filter, not, refl, arith, rules}
+use Rattle.std.proofs.Common.{◌≡◌, ◌+◌, ℕ, Bool, cond, Option, None, Some, List, [], ◌∷◌, ◌++◌, filter, not, refl, arith, rules}
 use Rattle.std.specs.Prelude.{◌||◌, ◌&&◌, is_some}
 use Rattle.std.proofs.lemmas.Grind.{common_steps}
 use Rattle.mailmap_entries.specs.Folding.{Text}

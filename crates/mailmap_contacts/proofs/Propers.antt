@@ -1,5 +1,5 @@
 -- Finding proper answers.
-use Rattle.std.proofs.Common.{◌≡◌, ◌∙◌, Bool, true, false, cond, Option, Some, List, [], ◌∷◌, ◌++◌, Bor, ap, append-nil, bytes_eq, filter, flat_map, option_map, option_to_list, refl, arith, rules}
+use Rattle.std.proofs.Common.{◌≡◌, ◌∙◌, ◌+◌, ◌<◌, ℕ, get_or, length, map, sym, take, Bool, true, cond, Option, Some, List, [], ◌∷◌, ◌++◌, Bor, ap, bytes_eq, filter, flat_map, option_map, option_to_list, refl, arith, rules}
 use Rattle.std.specs.Prelude.{if◌then◌else◌, is_none}
 use Rattle.std.specs.BTreeMap.{BTreeMap, get, is_at}
 use Rattle.std.specs.Cmp.{IsTotalOrder}
@@ -7,11 +7,12 @@ use Rattle.std.proofs.lemmas.Cmp.{nat_list_cmp_total, on_total}
 use Rattle.std.proofs.lemmas.Map.Text.{is_eq-slice_cmp}
 use Rattle.std.proofs.lemmas.Grind.{common_steps}
 use Rattle.mailmap_entries.specs.Folding.{Text, folded}
-use Rattle.mailmap_contacts.specs.Answers.{ArePropers, shared_field, finding_by, folded_cmp, tally_at}
+use Rattle.mailmap_contacts.specs.Answers.{ArePropers, shared_field, finding_by, folded_cmp, tally_at, tally_of}
 use Rattle.mailmap_contacts.specs.Comparisons.{ContactFinding, other_proper, shares}
 use Rattle.mailmap_contacts.specs.Contacts.{Tally}
 use Rattle.mailmap_contacts.specs.Folded.{folded_text}
 use Rattle.mailmap_contacts.specs.Proper.{better, preferred, preferred_of, proper}
+use Rattle.contact_counter.proofs.Steps.{mapped_more}
 use Rattle.contact_counter.specs.declared.tallies.Tally.{Tally as TheTally}
 use Rattle.mailmap_contacts.specs.declared.folded.Folded.{Folded}
 use Rattle.mailmap_contacts.specs.declared.proper.Shared.{Shared}
@@ -25,6 +26,11 @@ preferred-push best (x ∷ ts) t = preferred-push (preferred best x) ts t
 proper-push : (ts : List Tally) (t : Tally) → proper (ts ++ t ∷ []) ≡ Some (better (proper ts) t)
 proper-push [] t = refl
 proper-push (x ∷ ts) t = ap Some (preferred-push x ts t)
+
+pub proper_more : (ts : List TheTally) (i : ℕ) (d : TheTally) (o : Option Tally) → i < length ts → o ≡ proper (map tally_of (take i ts))
+    → Some (better o (tally_of (get_or ts i d))) ≡ proper (map tally_of (take (i + 1) ts))
+proper_more ts i d o lt is = ap (λ o. Some (better o (tally_of (get_or ts i d)))) is
+    ∙ sym (proper-push (map tally_of (take i ts)) (tally_of (get_or ts i d))) ∙ ap proper (sym (mapped_more tally_of ts i d lt))
 
 proper_if : (b : Bool) (ts : List Tally) (t : Tally) → proper (ts ++ cond b (t ∷ []) []) ≡ cond b (Some (better (proper ts) t)) (proper ts)
 proper_if b ts t = grind (arith, common_steps, proper-push)

@@ -56,12 +56,9 @@ shares field text a = bytes_eq (folded (field a)) (folded text)
 abbrev pub with_text : (Tally → Text) → List Tally → List Tally
 with_text field answers = filter (λ a. has_text (field a)) answers
 
-abbrev pub unless_same : Tally → Tally → Option Tally
-unless_same a p = if same_contact a.contact p.contact then None else Some p
-
 abbrev pub and_other : Tally → Option Tally → Option Tally
 and_other a None = None
-and_other a (Some p) = unless_same a p
+and_other a (Some p) = if same_contact a.contact p.contact then None else Some p
 
 -- the proper one of those that share a text with an answer, if it is another
 abbrev pub other_proper : (Tally → Text) → List Tally → Tally → Option Tally

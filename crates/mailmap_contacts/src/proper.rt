@@ -1,7 +1,6 @@
 //! Finds the proper one of answers that share an email or a name.
 ghost use Rattle.std.specs.Prelude.{◌≡◌, IfOk, IsFalse, IsTrue, List, OnOk, Some, if◌then◌else◌, map, option_map};
 ghost use Rattle.std.specs.BTreeMap.{get};
-ghost use Rattle.std.specs.Option.{option_copied};
 ghost use Rattle.mailmap_contacts.specs.Answers.{ArePropers, shared_field, folded_cmp, tally_at, tally_of};
 ghost use Rattle.mailmap_contacts.specs.Comparisons.{other_proper, shares};
 ghost use Rattle.mailmap_contacts.specs.Contacts as contacts;
@@ -65,7 +64,7 @@ fn add_answer<'r, 'a>(
     let key = Folded {
         text: shared.text(answer),
     };
-    if is_kept(propers.get(&key), answer) {
+    if is_kept(propers.get(&key).copied(), answer) {
         return Ok(());
     }
     propers.insert(key, answer)?;
@@ -73,16 +72,31 @@ fn add_answer<'r, 'a>(
 }
 
 // Whether the proper one so far, if there is one, stays so beside another one.
-fn is_kept(best: Option<&&Tally<'_>>, other: &Tally<'_>) -> bool
-    ensures kept { IsTrue result → Some (better (option_map tally_at (option_copied best.entry))
-        (tally_of other.now)) ≡ option_map tally_at (option_copied best.entry) }
-    ensures not_kept { IsFalse result → better (option_map tally_at (option_copied best.entry))
-        (tally_of other.now) ≡ tally_of other.now }
+fn is_kept(best: Option<&Tally<'_>>, other: &Tally<'_>) -> bool
+    ensures kept { IsTrue result → Some (better (option_map tally_at best.entry) (tally_of other.now))
+        ≡ option_map tally_at best.entry }
+    ensures not_kept { IsFalse result → better (option_map tally_at best.entry) (tally_of other.now)
+        ≡ tally_of other.now }
 {
     match best {
         Some(best) => !is_preferred(other, best),
         None => false,
     }
+}
+
+/// The proper one of answers, `None` if there are none.
+#[tactic(auto, using(crate::proofs::Propers::proper_more))]
+pub fn proper_of<'r, 'a>(answers: &'r [Tally<'a>]) -> Option<&'r Tally<'a>>
+    ensures { option_map tally_at result ≡ spec.proper (map tally_of answers.now) }
+{
+    let mut best = None;
+    for answer in answers {
+        if is_kept(best, answer) {
+            continue;
+        }
+        best = Some(answer);
+    }
+    best
 }
 
 /// The proper one of those that share a text with an answer, if it is another.

@@ -9,14 +9,7 @@ use std::fmt;
 
 /// Dumps the entry or the fault of each line of the files.
 pub fn items(out: &mut String, files: &[Vec<u8>]) -> Result<(), AllocError> {
-    for file in files {
-        lines(out, file)?;
-    }
-    Ok(())
-}
-
-fn lines(out: &mut String, file: &[u8]) -> Result<(), AllocError> {
-    for item in parse(file) {
+    for item in files.iter().flat_map(|file| parse(file)) {
         match item {
             Ok(entry) => put_entry(out, &entry)?,
             Err(fault) => writeln!(out, "F {fault} {}", Hex(Some(fault.input())))?,

@@ -11,8 +11,8 @@ use Rattle.std.proofs.lemmas.Map.Lookups.{exact_bytes}
 use Rattle.mailmap_entries.specs.Entries.{Mapping}
 use Rattle.mailmap_entries.specs.Folding.{Text, folded, text_cmp}
 use Rattle.mailmap_entries.specs.Building.{IsMerged, IsBuilt, nothing, merged, out_of_memory}
-use Rattle.mailmap_entries.specs.Semantics.{Key, Fields, has_key, key, key_cmp, last, first, new_fields, last_given, last_fields, given_fields, spelling, IsNormal, accepted, is_accepted, of_email, of_key, no_fields, unless_empty, fields_with_spelling, answer_of, fields_for}
-use Rattle.mailmap_entries.proofs.Alike.{Alike, first_name, same_normal, alike_accepted, alike_back, alike_itself, alike_joined, first_parts, last_parts, given_parts, key_parts}
+use Rattle.mailmap_entries.specs.Semantics.{Key, Fields, key, key_cmp, last, first, new_fields, last_given, last_fields, given_fields, spelling, IsNormal, accepted, is_accepted, of_email, of_key, no_fields, unless_empty, fields_with_spelling, answer_of, fields_for}
+use Rattle.mailmap_entries.proofs.Alike.{Alike, same_normal, alike_accepted, alike_back, alike_itself, alike_joined, first_parts, last_parts, given_parts, key_parts}
 use Rattle.mailmap_entries.proofs.Exists.{normal, is_normal}
 use Rattle.mailmap_entries.proofs.Joined.{IsApart, alike_trans, alike_swapped}
 use Rattle.mailmap_entries.proofs.Keys.{exactly_tied, keys_total, keys_exact}
@@ -55,33 +55,21 @@ built_normal _ _ nothing = normal_none
 built_normal _ _ (merged h n added new b d) = normal_then h n added new (built_normal h n b) d
 built_normal _ _ (out_of_memory h n new b e) = subst (IsNormal h) (sym e) (built_normal h n b)
 
+-- a part can be replaced by its normal list
+pub alike_condensed : (a b c m : List Mapping) → IsNormal b m → Alike (a ++ b ++ c) (a ++ m ++ c)
+alike_condensed a b c m is = alike_joined (a ++ b) c (a ++ m) c (alike_joined a b a m (alike_itself a) (alike_normal b m is)) (alike_itself c)
+
 -- a part of the accepted entries can be replaced by its normal list
 pub normal_condensed : (h n a b c m : List Mapping) → IsNormal h n → accepted h ≡ a ++ b ++ c → IsNormal b m → IsNormal (a ++ m ++ c) n
 normal_condensed h n a b c m d parts is =
     let all : IsNormal (a ++ b ++ c) n = subst (λ l. IsNormal l n) parts (same_normal h (accepted h) n (alike_accepted h (accepted h) (sym (accepted_twice h))) d) in
-    let alike = alike_joined (a ++ b) c (a ++ m) c (alike_joined a b a m (alike_itself a) (alike_normal b m is)) (alike_itself c) in
-    same_normal _ _ n alike all
+    same_normal _ _ n (alike_condensed a b c m is) all
 
 -- ---- mappings that are merged twice
 
-or_itself : (b : Bool) → (b || b) ≡ b
-or_itself b = grind arith
-
-option_or_itself : {X : Type 0} (o : Option X) → option_or o o ≡ o
-option_or_itself o = grind arith
-
 -- a list followed by itself is alike the list
 pub alike_repeated : (h : List Mapping) → Alike (h ++ h) h
-alike_repeated h = record {
-  keys = λ k. key_parts k h h ∙ or_itself (has_key (accepted h) k);
-  spellings = λ email. first_parts (λ e. e.old_email) _ h h ∙ option_or_itself (spelling h email);
-  given = λ email. λ i. record {
-    name = (given_parts (λ e. e.new_name) _ h h ∙ option_or_itself (given_fields h email).name) i;
-    email = (given_parts (λ e. e.new_email) _ h h ∙ option_or_itself (given_fields h email).email) i;
-  };
-  lasts = λ email name. last_parts new_fields _ h h ∙ option_or_itself (last_fields h (email, Some name));
-  names = λ email name. first_parts (λ e. e.old_name) _ h h ∙ option_or_itself (first_name h (email, Some name));
-}
+alike_repeated h = grind (arith, key_parts, first_parts, last_parts, given_parts)
 
 pub normal_repeated : (h n : List Mapping) → IsNormal h n → IsNormal (h ++ n) n
 normal_repeated h n d =
@@ -109,15 +97,7 @@ alike_neighbours a b x y differ =
 
 -- an answer depends only on the accepted entries for its email
 pub scan_by_email : (h g : List Mapping) (name email : Text) → of_email h (folded email) ≡ of_email g (folded email) → answer_of h name email ≡ answer_of g name email
-scan_by_email h g name email same =
-    let keyed : (o : Option Text) → of_key h (folded email, o) ≡ of_key g (folded email, o) =
-    λ o. by_email h (folded email, o) ∙ ap (of_name o) same ∙ sym (by_email g (folded email, o)) in
-    let lasts : last_fields h (folded email, Some (folded name)) ≡ last_fields g (folded email, Some (folded name)) =
-    ap (λ l. option_map new_fields (last l)) (keyed (Some (folded name))) in
-    let given : given_fields h (folded email) ≡ given_fields g (folded email) =
-    λ i. record { name = last_given (λ e. e.new_name) (keyed None i); email = last_given (λ e. e.new_email) (keyed None i) } in
-    let spelled : spelling h (folded email) ≡ spelling g (folded email) = ap (λ l. option_map (λ e. e.old_email) (first l)) same in
-    λ i. fields_with_spelling email (unwrap_or (lasts i) (given i)) (spelled i)
+scan_by_email h g name email same = grind (arith, by_email, same)
 
 -- without a new email, the email after resolving is the stored spelling, whether or not the signature has exactly that
 one_email : (name new : Option Text) (kept email : Text) (same : Bool) → (same ≡ true → kept ≡ email)
@@ -127,15 +107,13 @@ one_email name new kept email same is = grind arith
 one_of : (f : Fields) (spelled : Option Text) (email other : Text) → IsSome spelled
     → unwrap_or (unwrap_or (fields_with_spelling email f spelled) no_fields).email email ≡ unwrap_or (unwrap_or (fields_with_spelling other f spelled) no_fields).email other
 one_of f None email other is = absurd (true≢false (sym is))
-one_of f (Some kept) email other is =
-    one_email f.name f.email kept email _ (same_text kept email).0 ∙ sym (one_email f.name f.email kept other _ (same_text kept other).0)
+one_of f (Some kept) email other is = grind (arith, one_email, same_text)
 
 -- signatures that differ only in the case of letters have one email, if there is an entry for that email
 pub one_resolved : (h : List Mapping) (name other_name email other_email : Text) → folded name ≡ folded other_name → folded email ≡ folded other_email → IsSome (spelling h (folded email))
     → unwrap_or (fields_for h name email).email email ≡ unwrap_or (fields_for h other_name other_email).email other_email
 one_resolved h name other_name email other_email names emails some =
-    one_of (unwrap_or (last_fields h (folded email, Some (folded name))) (given_fields h (folded email))) (spelling h (folded email)) email other_email some
-    ∙ (λ i. unwrap_or (unwrap_or (fields_with_spelling other_email (unwrap_or (last_fields h (emails i, Some (names i))) (given_fields h (emails i))) (spelling h (emails i))) no_fields).email other_email)
+    grind (arith, emails, names, one_of)
 
 pub other_text : (a b : Text) → (b ≡ a → ⊥) → eq_by_cmp text_cmp a b ≡ false
 other_text a b other = false_from_ne_true (eq_by_cmp text_cmp a b) (λ same. other (sym ((same_text a b).0 same)))

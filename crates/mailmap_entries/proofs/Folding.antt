@@ -1,6 +1,6 @@
 -- How the lexicographic order of texts decides: the first difference, a proper prefix, equal texts.
-use Rattle.std.proofs.Common.{◌+◌, length, ◌⊎◌, ◌↔◌, ◌≡◌, ◌<◌, ℕ, List, [], ◌∷◌, refl, sym, ap, ◌∙◌, arith, inl, inr, ⊎_elim, Ordering, Less, Equal, Greater}
-use Rattle.std.proofs.lemmas.Bool.{cases_lt, cases_eq}
+use Rattle.std.proofs.lemmas.Slice.Eq.{bytes_eq-Decides}
+use Rattle.std.proofs.Common.{◌+◌, length, ◌⊎◌, ◌↔◌, ◌≡◌, ℕ, List, [], ◌∷◌, refl, sym, ap, ◌∙◌, arith, Ordering, Less, Equal, Greater}
 use Rattle.std.specs.Ordering.{nat_cmp, ordering_then}
 use Rattle.std.specs.Cmp.{nat_cmp_is}
 use Rattle.std.specs.Cmp.Lexicographic.{slice_cmp}
@@ -12,22 +12,14 @@ pub less-smaller : (xs ys : List ℕ) → slice_cmp nat_cmp xs ys ≡ Less → I
 less-smaller [] [] e = absurd (cc)
 less-smaller [] (y ∷ ys) e = tt
 less-smaller (x ∷ xs) [] e = absurd (cc)
-less-smaller (x ∷ xs) (y ∷ ys) e =
-    let rest = λ (r : Ordering) (is : r ≡ nat_cmp x y). ap (λ o. ordering_then o (slice_cmp nat_cmp xs ys)) is ∙ e in
-    ⊎_elim inl (λ le. ⊎_elim (λ same. inr (same, less-smaller xs ys (rest Equal (nat_cmp_is x y Equal same)))) (λ other.
-    let above : y < x = omega arith in
-    let wrong : Greater ≡ Less = rest Greater (nat_cmp_is x y Greater above) in absurd (cc)) (cases_eq x y))
-    (cases_lt x y)
+less-smaller (x ∷ xs) (y ∷ ys) e = grind (arith, less-smaller xs ys)
 
 -- and the other way round
 pub smaller-less : (xs ys : List ℕ) → IsSmaller xs ys → slice_cmp nat_cmp xs ys ≡ Less
 smaller-less [] [] h = absurd h
 smaller-less [] (y ∷ ys) h = refl
 smaller-less (x ∷ xs) [] h = absurd h
-smaller-less (x ∷ xs) (y ∷ ys) h = ⊎_elim
-    (λ lt. ap (λ o. ordering_then o (slice_cmp nat_cmp xs ys)) (sym (nat_cmp_is x y Less lt)))
-    (λ same. ap (λ o. ordering_then o (slice_cmp nat_cmp xs ys)) (sym (nat_cmp_is x y Equal same.0)) ∙ smaller-less xs ys same.1)
-    h
+smaller-less (x ∷ xs) (y ∷ ys) h = grind (arith, smaller-less xs ys)
 
 -- only equal texts compare as equal
 pub equal-same : (xs ys : List ℕ) → slice_cmp nat_cmp xs ys ≡ Equal → xs ≡ ys
@@ -46,9 +38,11 @@ text_cmp-end (x ∷ s) [] k l long empty = nat_cmp_is k l Greater (omega arith)
 text_cmp-end (x ∷ s) (y ∷ t) k l long empty = absurd (omega arith)
 
 -- a comparison without case gives `Less` exactly if the first text is below the second
-pub less-below : (a b : Text) (o : Ordering) → o ≡ text_cmp (folded a) (folded b) → (o ≡ Less) ↔ IsBelow a b
-less-below a b o is = (λ e. less-smaller _ _ (sym is ∙ e), λ h. is ∙ smaller-less _ _ h)
+pub less_below : (a b : Text) (o : Ordering) → o ≡ text_cmp (folded a) (folded b) → (o ≡ Less) ↔ IsBelow a b
+less_below a b o is = (λ e. less-smaller _ _ (sym is ∙ e), λ h. is ∙ smaller-less _ _ h)
 
 -- a comparison without case gives `Equal` exactly if the folded texts are equal
-pub equal-folded : (a b : Text) (o : Ordering) → o ≡ text_cmp (folded a) (folded b) → (o ≡ Equal) ↔ (folded a ≡ folded b)
-equal-folded a b o is = (λ e. equal-same _ _ (sym is ∙ e), λ h. is ∙ ap (λ t. text_cmp t (folded b)) h ∙ same-equal (folded b))
+pub equal_folded : (a b : Text) (o : Ordering) → o ≡ text_cmp (folded a) (folded b) → (o ≡ Equal) ↔ (folded a ≡ folded b)
+equal_folded a b o is = (λ e. equal-same _ _ (sym is ∙ e), λ h. is ∙ ap (λ t. text_cmp t (folded b)) h ∙ same-equal (folded b))
+
+pub ruleset cmp_laws = (equal_folded, same-equal, text_cmp-end, bytes_eq-Decides)

@@ -2,7 +2,7 @@
 use Rattle.std.proofs.Common.{arith, ◌≡◌, Bool, true, false, true≢false, cond, List, [], ◌∷◌, ◌++◌, map, filter, filter_map, append-nil, append_assoc, Option, Some, None, Ordering, is_eq, is_some, option_map, refl, sym, ap, subst, ◌∙◌}
 use Rattle.std.specs.Cmp.{eq_by_cmp_equiv}
 use Rattle.std.specs.Cmp.Lexicographic.{nat_list_cmp_total}
-use Rattle.std.specs.List.{AllByRecursion, cons_option}
+use Rattle.std.specs.List.{AllByRecursion}
 use Rattle.std.specs.Ordering.{eq_by_cmp, ordering_then}
 use Rattle.mailmap_entries.specs.Entries.{Mapping}
 use Rattle.mailmap_entries.specs.Folding.{Text, folded, text_cmp}
@@ -14,13 +14,7 @@ use Rattle.mailmap_entries.proofs.Parts.{is_some-option_map}
 
 -- being alike is transitive
 pub alike_trans : (a b c : List Mapping) → Alike a b → Alike b c → Alike a c
-alike_trans a b c p q = record {
-  keys = λ k. p.keys k ∙ q.keys k;
-  spellings = λ e. p.spellings e ∙ q.spellings e;
-  given = λ e. p.given e ∙ q.given e;
-  lasts = λ e n. p.lasts e n ∙ q.lasts e n;
-  names = λ e n. p.names e n ∙ q.names e n;
-}
+alike_trans a b c p q = grind (arith, p.keys, p.spellings, p.given, p.lasts, p.names, q.keys, q.spellings, q.given, q.lasts, q.names)
 
 -- ---- what counts among the entries of a key
 
@@ -33,7 +27,7 @@ last-map f (x ∷ xs) = grind (arith, last-map f xs)
 
 filter_map-map : {X Y Z : Type 0} (f : Y → Option Z) (g : X → Y) (xs : List X) → filter_map f (map g xs) ≡ filter_map (λ x. f (g x)) xs
 filter_map-map f g [] = refl
-filter_map-map f g (x ∷ xs) = ap (cons_option (f (g x))) (filter_map-map f g xs)
+filter_map-map f g (x ∷ xs) = grind (arith, filter_map-map f g xs)
 
 option_map-map : {X Y Z : Type 0} (f : Y → Z) (g : X → Y) (o : Option X) → option_map f (option_map g o) ≡ option_map (λ x. f (g x)) o
 option_map-map f g o = grind arith

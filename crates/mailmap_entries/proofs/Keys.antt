@@ -17,8 +17,7 @@ pub keys_total : IsTotalOrder key_cmp
 keys_total = then_total (on_total (λ k. k.0) nat_list_cmp_total) (on_total (λ k. k.1) (options_total nat_list_cmp_total))
 
 pub exact_options : (x y : Option Text) → option_cmp text_cmp x y ≡ Equal → x ≡ y
-exact_options None None e = refl
-exact_options None (Some y) e = cc
+exact_options None y e = grind arith
 exact_options (Some x) None e = cc
 exact_options (Some x) (Some y) e = ap (λ t. Some t) (exact_bytes x y e)
 
@@ -44,15 +43,13 @@ entries_total = then_total (on_total (λ (m : Mapping). m.new_name) (options_tot
 
 same_entry : (a b : Mapping) → mapping_cmp a b ≡ Equal → a ≡ b
 same_entry a b e =
-    let first = both_equal (option_cmp text_cmp a.new_name b.new_name) _ e in
-    let second = both_equal (option_cmp text_cmp a.new_email b.new_email) _ first.1 in
-    let third = both_equal (option_cmp text_cmp a.old_name b.old_name) (text_cmp a.old_email b.old_email) second.1 in
-    λ i. record {
-      new_name = exact_options a.new_name b.new_name first.0 i;
-      new_email = exact_options a.new_email b.new_email second.0 i;
-      old_name = exact_options a.old_name b.old_name third.0 i;
-      old_email = equal-same a.old_email b.old_email third.1 i;
-    }
+    grind (
+      arith,
+      exact_options a.new_name b.new_name,
+      exact_options a.new_email b.new_email,
+      exact_options a.old_name b.old_name,
+      equal-same a.old_email b.old_email,
+    )
 
 pub entries_exact : (a b : Mapping) → (mapping_cmp a b ≡ Equal) ↔ (a ≡ b)
 entries_exact = exactly entries_total same_entry

@@ -5,10 +5,7 @@ use Rattle.std.specs.Char.{to_ascii_lowercase}
 use Rattle.std.specs.Simd.Lanes.{zip2, sel_l, top}
 
 pick : (a b : Bool) (u x : ℕ) → cond (top 7 (bit_and (cond {A = ℕ} a 255 0) (cond {A = ℕ} b 255 0))) u x ≡ cond (a && b) u x
-pick true true u x = refl
-pick true false u x = refl
-pick false true u x = refl
-pick false false u x = refl
+pick a b u x = grind arith
 
 one : (x : ℕ) → cond (leb 65 x && leb x 90) ((x + 32) % 256) x ≡ to_ascii_lowercase x
 one x = grind (arith, nat_tests)

@@ -19,23 +19,13 @@ use Rattle.mailmap_entries.proofs.Parts.{all_apply, all_weaker, list_any-map, fi
 abbrev only : Mapping → List Mapping → List Mapping
 only v l = cond (is_some (first l)) (v ∷ []) []
 
-given_stands : (f : Mapping → Option Text) (v : Mapping) (l : List Mapping) → f v ≡ last_given f l → last_given f l ≡ last_given f (only v l)
-given_stands f v l e = grind (arith, last_of_one f v)
-
-last_stands : (v : Mapping) (l : List Mapping) → new_fields v ≡ unwrap_or (option_map new_fields (last l)) no_fields → option_map new_fields (last l) ≡ option_map new_fields (last (only v l))
-last_stands v l e = grind arith
-
-name_stands : (v : Mapping) (l : List Mapping) → v.old_name ≡ option_and_then (λ e. e.old_name) (first l) → option_map (λ e. e.old_name) (first l) ≡ option_map (λ e. e.old_name) (first (only v l))
-name_stands v l e = grind arith
-
 -- ---- the value of a key is accepted
 
 all_accepted : (p : Mapping → Bool) (h : List Mapping) → AllByRecursion (λ e. is_accepted e ≡ true) (filter p (accepted h))
 all_accepted p h = recursion_from_All _ _ (All-filter p (λ e. is_accepted e ≡ true) (accepted h) (filter_passes is_accepted h))
 
 some_accepted : (l : List Mapping) → AllByRecursion (λ e. is_accepted e ≡ true) l → is_some (first l) ≡ true → list_any is_accepted l ≡ true
-some_accepted [] a e = cc
-some_accepted (x ∷ l) a e = ap (λ b. b || list_any is_accepted l) a.0
+some_accepted l a e = grind arith
 
 last_accepted : (l : List Mapping) → AllByRecursion (λ e. is_accepted e ≡ true) l → is_some (first l) ≡ true
     → (is_some (unwrap_or (option_map new_fields (last l)) no_fields).name || is_some (unwrap_or (option_map new_fields (last l)) no_fields).email) ≡ true
@@ -43,10 +33,7 @@ last_accepted [] a e = cc
 last_accepted (x ∷ l) a e = all_last (λ e. is_accepted e ≡ true) x l a.0 a.1
 
 accepted_value : (h : List Mapping) (k : Key) → is_some (first (of_key h k)) ≡ true → is_accepted (value h k) ≡ true
-accepted_value h (email, None) e =
-    let l = of_key h (email, None) in
-    (λ i. some_given (λ e. e.new_name) l i || some_given (λ e. e.new_email) l i)
-    ∙ any_either (λ e. is_some e.new_name) (λ e. is_some e.new_email) l ∙ some_accepted l (all_accepted _ h) e
+accepted_value h (email, None) e = grind (arith, some_given, any_either, some_accepted, all_accepted)
 accepted_value h (email, Some name) e = last_accepted (of_key h (email, Some name)) (all_accepted _ h) e
 
 pub known : (h : List Mapping) (k : Key) → has_key (accepted h) k ≡ is_some (first (of_key h k))
@@ -84,16 +71,7 @@ module _ (h n : List Mapping) (d : IsNormal h n) where
       ∙ some_again (spelling h email) [])
 
   pub alike_normal : Alike h n
-  alike_normal = record {
-    keys = λ k. sym (ap (λ l. has_key l k) accepted_self ∙ d.keys k);
-    spellings = same_spelling;
-    given = λ email i. record {
-      name = (given_stands (λ e. e.new_name) (value h (email, None)) (of_key h (email, None)) refl ∙ ap (last_given (λ e. e.new_name)) (sym (of_key_normal (email, None)))) i;
-      email = (given_stands (λ e. e.new_email) (value h (email, None)) (of_key h (email, None)) refl ∙ ap (last_given (λ e. e.new_email)) (sym (of_key_normal (email, None)))) i;
-    };
-    lasts = λ email name. last_stands (value h (email, Some name)) (of_key h (email, Some name)) refl ∙ ap (λ l. option_map new_fields (last l)) (sym (of_key_normal (email, Some name)));
-    names = λ email name. name_stands (value h (email, Some name)) (of_key h (email, Some name)) refl ∙ ap (λ l. option_map (λ e. e.old_name) (first l)) (sym (of_key_normal (email, Some name)));
-  }
+  alike_normal = grind (arith, accepted_self, same_spelling, of_key_normal, last_of_one)
 
 pub normal_self : (h n : List Mapping) → IsNormal h n → IsNormal n n
 normal_self h n d = same_normal h n n (alike_normal h n d) d

@@ -1,8 +1,8 @@
 -- First, last and filter of joined lists.
-use Rattle.std.proofs.Common.{⊎_elim, arith, ◌≡◌, Bool, true, false, cond, ◌&&◌, ◌||◌, List, [], ◌∷◌, ◌++◌, map, take, filter, filter_map, Option, Some, None, is_some, unwrap_or, option_map, refl, ap}
+use Rattle.std.proofs.Common.{⊎_elim, arith, ◌≡◌, Bool, true, false, cond, ◌&&◌, ◌||◌, List, [], ◌∷◌, ◌++◌, map, filter, filter_map, Option, Some, None, is_some, unwrap_or, option_map, refl, ap}
 use Rattle.std.proofs.lemmas.Bool.{cases_Bool}
 use Rattle.std.specs.Option.{option_or, option_flatten, option_and_then}
-use Rattle.std.specs.List.{AllByRecursion, HoldsAt, list_any, cons_option}
+use Rattle.std.specs.List.{AllByRecursion, list_any, cons_option}
 pub use Rattle.std.proofs.lemmas.List.Folds.{list_any-append}
 use Rattle.mailmap_entries.specs.Semantics.{first, last}
 
@@ -97,10 +97,6 @@ all_apply P Q R f (x ∷ xs) a b = (f x a.0 b.0, all_apply P Q R f xs a.1 b.1)
 pub all_map : {X Y : Type 0} (f : X → Y) (P : Y → Type 0) (xs : List X) → AllByRecursion P (map f xs) → AllByRecursion (λ x. P (f x)) xs
 all_map f P [] a = tt
 all_map f P (x ∷ xs) a = (a.0, all_map f P xs a.1)
-
-pub first_alone : {X : Type 0} (P : X → Type 0) (xs : List X) → HoldsAt P xs 0 → AllByRecursion P (take 1 xs)
-first_alone P [] h = tt
-first_alone P (x ∷ xs) h = (h x, tt)
 
 pub all_weaker : {X : Type 0} {P Q : X → Type 0} (xs : List X) → ((x : X) → P x → Q x) → AllByRecursion P xs → AllByRecursion Q xs
 all_weaker [] f a = tt

@@ -1,5 +1,6 @@
 -- Texts whose prefixes differ are in the order of their prefixes.
-use Rattle.std.proofs.Common.{◌≡◌, ◌≢◌, ◌<◌, ◌≤◌, ◌+◌, ◌-◌, ◌*◌, ◌^◌, ℕ, zero, suc, [], ◌∷◌, ◌++◌, drop, take, map, length, replicate, get_or, Ordering, Less, Equal, Greater, refl, ap, ◌∙◌, arith}
+use Rattle.std.proofs.lemmas.List.{drop-replicate}
+use Rattle.std.proofs.Common.{◌≡◌, ◌≢◌, ◌<◌, ◌≤◌, ◌+◌, ◌*◌, ◌^◌, ℕ, zero, suc, [], ◌∷◌, ◌++◌, drop, take, map, length, replicate, get_or, Ordering, Less, Equal, Greater, refl, ap, ◌∙◌, arith}
 use Rattle.std.specs.Cmp.Lexicographic.{nat_list_cmp_total}
 use Rattle.std.specs.Ordering.{nat_cmp, ordering_reverse}
 use Rattle.std.proofs.Math.Nat.{pow-succ', suc-mul, mul-le-mul_right}
@@ -105,3 +106,5 @@ folded_below x lt = grind (arith, nat_tests)
 pub folded_bytes : (xs : Text) → ((i : ℕ) → get_or xs i 0 < 256) → AreBytes (folded xs)
 folded_bytes [] all = tt
 folded_bytes (x ∷ xs) all = (folded_below x (all 0), folded_bytes xs (λ i. all (suc i)))
+
+pub ruleset first_laws = (prefix_padded, prefix_take, drop-replicate)

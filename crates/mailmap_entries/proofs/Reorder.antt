@@ -1,12 +1,12 @@
 -- Lists with the same entries for each email are alike.
-use Rattle.std.proofs.Common.{arith, ◌≡◌, ◌&&◌, List, filter, Option, is_some, Ordering, is_eq, sym, ap, ◌∙◌}
+use Rattle.std.proofs.Common.{arith, ◌≡◌, ◌&&◌, List, filter, Option, is_some, Ordering, is_eq, sym, ◌∙◌}
 use Rattle.std.specs.Ordering.{eq_by_cmp, ordering_then}
 use Rattle.std.specs.Option.{option_cmp}
 use Rattle.std.proofs.lemmas.List.Elements.{filter_agree}
 use Rattle.mailmap_entries.specs.Entries.{Mapping}
 use Rattle.mailmap_entries.specs.Folding.{Text, text_cmp}
-use Rattle.mailmap_entries.specs.Semantics.{Key, key, key_cmp, first, accepted, of_email, of_key}
-use Rattle.mailmap_entries.proofs.Alike.{Alike, alike_picked}
+use Rattle.mailmap_entries.specs.Semantics.{Key, key, key_cmp, accepted, of_email, of_key}
+use Rattle.mailmap_entries.proofs.Alike.{Alike}
 use Rattle.mailmap_entries.proofs.Normal.{known}
 use Rattle.mailmap_entries.proofs.Parts.{filter-filter}
 
@@ -24,6 +24,4 @@ by_email h k =
     ∙ sym (filter-filter (λ e. eq_by_cmp (option_cmp text_cmp) k.1 (key e).1) (λ e. eq_by_cmp text_cmp k.0 (key e).0) (accepted h))
 
 pub alike_reordered : (h g : List Mapping) → ((email : Text) → of_email h email ≡ of_email g email) → Alike h g
-alike_reordered h g same =
-    let keyed : (k : Key) → of_key h k ≡ of_key g k = λ k. by_email h k ∙ ap (of_name k.1) (same k.0) ∙ sym (by_email g k) in
-    alike_picked h g (λ k. known h k ∙ ap (λ l. is_some (first l)) (keyed k) ∙ sym (known g k)) same keyed
+alike_reordered h g same = grind (arith, same, by_email, known)

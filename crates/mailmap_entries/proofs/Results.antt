@@ -1,7 +1,7 @@
 -- Weaker statements about a result, from stronger ones.
 use Rattle.std.proofs.Common.{Result, Ok, Err}
 pub use Rattle.std.proofs.lemmas.Result.{IfOk-weaker as if_ok_map}
-use Rattle.std.specs.Result.{IfOk, IsOk, OnErr, OnOk}
+use Rattle.std.specs.Result.{OnErr, OnOk}
 
 pub on_err : {T E : Type 0} (r : Result T E) (P : Type 0) → P → OnErr r P
 on_err (Ok x) P p = tt
@@ -10,11 +10,3 @@ on_err (Err x) P p = p
 pub on_ok_then : {T E : Type 0} (r : Result T E) (P Q : Type 0) → (P → Q) → OnOk r P → OnOk r Q
 on_ok_then (Ok x) P Q f p = f p
 on_ok_then (Err x) P Q f p = tt
-
-pub on_ok_at : {T E : Type 0} (r : Result T E) (P : Type 0) → OnOk r P → IsOk r → P
-on_ok_at (Ok x) P p is = p
-on_ok_at (Err x) P p is = absurd (cc)
-
-pub if_ok_then : {T E : Type 0} (r : Result T E) (P Q R : T → Type 0) → ((x : T) → P x → Q x → R x) → IfOk r P → IfOk r Q → IfOk r R
-if_ok_then (Ok x) P Q R f p q = f x p q
-if_ok_then (Err e) P Q R f p q = tt

@@ -64,3 +64,5 @@ greater_from (Equal ∷ xs) zero j d parted e le h = absurd (cc)
 greater_from (Greater ∷ xs) k zero d parted e le h = refl
 greater_from (x ∷ xs) (suc k) zero d parted e le h = absurd (omega arith)
 greater_from (x ∷ xs) k (suc j) d parted e le h = All-from_recursion _ xs parted j d (omega arith)
+
+pub ruleset search_laws = (digits-part, digits-le, less_before, greater_from)

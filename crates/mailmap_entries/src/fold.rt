@@ -14,6 +14,7 @@ use std::marker::Model;
 ///
 /// All other bytes stay as they are, so letters outside ASCII keep their case. A proper prefix is smaller: `a` sorts
 /// before `B`, and `foo` before `FOO1`. `FooBar` and `foobar` are equal.
+#[tactic(auto, using(crate::proofs::Folding::cmp_laws))]
 pub fn cmp_ignore_ascii_case(a: &[u8], b: &[u8]) -> Ordering
     ensures value { result ≡ text_cmp (folded a.now) (folded b.now) }
     ensures equal { (result ≡ Ordering.Equal) ↔ (folded a.now ≡ folded b.now) }
@@ -57,6 +58,7 @@ pub trait Probe {
 /// If no answer is `Equal`, `Err` has the index where the element could be inserted. Each question halves the rest of
 /// the list, so there are at most as many questions as the length has binary digits: one for one element, ten for 1,023
 /// elements, and none for an empty list.
+#[tactic(auto, using(crate::proofs::Search::search_laws))]
 pub fn search<P: Probe>(len: usize, p: &mut P) -> Result<usize, usize>
     requires whole { len ≡ length (P.answers p.old) }
     requires parted { IsPartitioned (P.answers p.old) }

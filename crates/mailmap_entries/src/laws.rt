@@ -22,6 +22,7 @@ pub fn law_entries()
 {}
 
 /// The order of entries is total, and no two different entries compare as equal.
+#[tactic(auto, using(crate::proofs::Keys::entries_total, crate::proofs::Keys::entries_exact))]
 pub fn law_order()
     ensures total { IsTotalOrder mapping_cmp }
     ensures same { (a b : Mapping) → (mapping_cmp a b ≡ Ordering.Equal) ↔ (a ≡ b) }
@@ -29,6 +30,7 @@ pub fn law_order()
 
 /// The order without the case of ASCII letters is a total preorder: any two texts can be compared, and they compare as
 /// equal exactly if they differ in nothing but case. Else the first bytes that differ decide.
+#[tactic(auto, using(crate::proofs::Keys::folded_total, crate::proofs::Folding::less_below, crate::proofs::Folding::equal_folded))]
 pub fn law_order_without_case()
     ensures total { IsTotalOrder (λ (a b : Text). text_cmp (folded a) (folded b)) }
     ensures less { (a b : Text) → (text_cmp (folded a) (folded b) ≡ Ordering.Less) ↔ IsBelow a b }

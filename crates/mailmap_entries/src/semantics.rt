@@ -23,6 +23,7 @@ pub fn law_condense()
 {}
 
 /// A normal list gives the same answers as the mappings that it was made from.
+#[tactic(auto, using(crate::proofs::Alike::same_scan, crate::proofs::Normal::alike_normal))]
 pub fn law_answers()
     ensures { (h n : List Mapping) (name email : Text) → IsNormal h n → answer_of h name email ≡ answer_of n name email }
 {}
@@ -87,6 +88,7 @@ pub fn law_one_email()
 
 /// Texts, and keys, compare as equal exactly if they are the same. So the filters in the definitions select by plain
 /// equality.
+#[tactic(auto, using(crate::proofs::Building::same_text, crate::proofs::Building::same_key))]
 pub fn law_equal()
     ensures texts { (a b : Text) → (eq_by_cmp text_cmp a b ≡ true) ↔ (a ≡ b) }
     ensures keys { (j k : Key) → (eq_by_cmp key_cmp j k ≡ true) ↔ (j ≡ k) }

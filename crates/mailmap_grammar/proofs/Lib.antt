@@ -4,7 +4,6 @@ pub mod Plain
 pub mod Readings
 pub mod FaultLines
 pub mod SplitOnce
-pub mod Trims
 pub mod Trimmed
 pub mod Skipped
 pub mod LineFeeds

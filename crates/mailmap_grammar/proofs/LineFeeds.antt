@@ -4,7 +4,7 @@ use Rattle.std.specs.List.{AllByRecursion}
 use Rattle.std.proofs.lemmas.Bool.{cond-false, ne_eqb}
 use Rattle.mailmap_entries.specs.Folding.{Text}
 use Rattle.mailmap_grammar.specs.Lines.{ArePieces, HoldsNo, with_line_feeds, pieces, with_first}
-use Rattle.mailmap_grammar.proofs.SplitOnce.{once-cases}
+use Rattle.mailmap_grammar.proofs.SplitOnce.{none_held, once-cases}
 
 -- a line and its line feed make one piece
 pub pieces-line : (l rest : List ℕ) → HoldsNo 10 l → pieces (l ++ 10 ∷ rest) ≡ l ∷ pieces rest
@@ -22,9 +22,7 @@ pieces-open (b ∷ c ∷ l) h some = cond-false _ _ _ (ne_eqb b 10 h.0) ∙ ap (
 -- lines with their line feeds, followed by more text
 pub pieces-with_line_feeds : (ls : List Text) (rest : Text) → AllByRecursion (HoldsNo 10) ls → pieces (with_line_feeds ls ++ rest) ≡ ls ++ pieces rest
 pieces-with_line_feeds [] rest h = refl
-pieces-with_line_feeds (l ∷ ls) rest h =
-    ap pieces (append_assoc (l ++ 10 ∷ []) (with_line_feeds ls) rest ∙ append_assoc l (10 ∷ []) (with_line_feeds ls ++ rest))
-    ∙ pieces-line l (with_line_feeds ls ++ rest) h.0 ∙ ap (λ ps. l ∷ ps) (pieces-with_line_feeds ls rest h.1)
+pieces-with_line_feeds (l ∷ ls) rest h = grind (arith, pieces-with_line_feeds ls rest h.1, append_assoc, pieces-line)
 
 pub pieces-nil : pieces [] ≡ []
 unfolding pieces
@@ -78,3 +76,5 @@ pub length-pieces : (s : Text) → length (pieces s) ≤ length s
 unfolding pieces
 length-pieces [] = omega arith
 length-pieces (b ∷ s) = grind (arith, length-with_first b (pieces s), length-pieces s)
+
+pub ruleset open_laws = (pieces-open, pieces-nil, none_held)

@@ -1,5 +1,6 @@
 -- What the bytes at the ends of a text tell about trimming it.
-use Rattle.std.proofs.Common.{◌≡◌, ◌+◌, ◌-◌, ◌<◌, ◌≤◌, ℕ, suc, true, List, [], ◌∷◌, ◌++◌, length, take, drop, get_or, length-append, refl, sym, ap, ap₂, ◌∙◌, arith, ⊎_elim}
+use Rattle.std.proofs.lemmas.Grind.{common_steps}
+use Rattle.std.proofs.Common.{◌≡◌, ◌+◌, ◌-◌, ◌<◌, ◌≤◌, ℕ, true, List, [], ◌∷◌, ◌++◌, length, take, drop, get_or, length-append, refl, sym, ap, ◌∙◌, arith, ⊎_elim}
 use Rattle.std.proofs.lemmas.Bool.{cases_lt}
 use Rattle.std.proofs.lemmas.Bool.Decides.{nat_tests}
 use Rattle.std.proofs.lemmas.List.{take_more, get_or-append-add, nil_from_length}
@@ -8,12 +9,10 @@ use Rattle.std.proofs.Math.Seq.{drop-cons}
 use Rattle.std.specs.Char.{is_whitespace, encode_utf8}
 use Rattle.mailmap_grammar.specs.Trimming.{trim, BeginsWhite, EndsWhite}
 use Rattle.mailmap_grammar.proofs.Trimmed.{trim-nil, trim-stays, trim-white_start, trim-white_end}
-use Rattle.mailmap_grammar.proofs.Trims.{some_bytes}
+use Rattle.mailmap_grammar.proofs.Trimmed.{some_bytes}
 
 pub first_at : (s : List ℕ) (i j x : ℕ) → i < length s → j ≡ i + 1 → get_or s i 0 ≡ x → drop i s ≡ x ∷ drop j s
-first_at s i j x lt next is =
-    let after : suc i ≡ j = omega (arith, next) in
-    drop-cons s i 0 lt ∙ ap₂ (λ y k. y ∷ drop k s) is after
+first_at s i j x lt next is = grind (arith, common_steps, drop-cons)
 
 pub last_at : (s : List ℕ) (i j x : ℕ) → i < length s → j ≡ i + 1 → get_or s i 0 ≡ x → take j s ≡ take i s ++ x ∷ []
 last_at s i j x lt next is = ap (λ k. take k s) next ∙ take_more s i 0 lt ∙ ap (λ y. take i s ++ y ∷ []) is
@@ -29,8 +28,7 @@ pub first_blank : (s : List ℕ) (i : ℕ) → i < length s → is_whitespace (g
 first_blank s i lt white small = sym (ap trim (first_at s i (i + 1) _ lt refl refl) ∙ trim-ascii_start _ (drop (i + 1) s) white small)
 
 pub last_blank : (s : List ℕ) (n : ℕ) → 0 < n → n ≤ length s → is_whitespace (get_or s (n - 1) 0) ≡ true → get_or s (n - 1) 0 < 128 → trim (take (n - 1) s) ≡ trim (take n s)
-last_blank s n some within white small =
-    sym (ap trim (last_at s (n - 1) n _ (omega arith) (omega arith) refl) ∙ trim-ascii_end _ (take (n - 1) s) white small)
+last_blank s n some within white small = grind (arith, common_steps, last_at, trim-ascii_end)
 
 -- characters outside ASCII begin and end with bytes outside ASCII
 high-last : (c : ℕ) → 128 ≤ c → 128 ≤ get_or (encode_utf8 c) (length (encode_utf8 c) - 1) 0

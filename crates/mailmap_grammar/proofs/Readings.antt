@@ -27,9 +27,7 @@ nothing_left read n said bytes whole none = sym whole ∙ ap (λ s. readings_fro
 -- the readings of what comes after lines that are skipped
 pub after_skipped : {bytes rest : Text} {count : ℕ} (parse : ℕ → Text → Reading) (number : ℕ) (said : List Reading) → Skips bytes rest count
     → readings_from (reading_by parse) (number + 1) (pieces bytes) ≡ said → readings_from (reading_by parse) (number + (count + 1)) (pieces rest) ≡ said
-after_skipped {rest = rest} {count = count} parse number said skipped is =
-    let line : number + (count + 1) ≡ number + 1 + count = omega arith in
-    ap (λ n. readings_from (reading_by parse) n (pieces rest)) line ∙ sym (skipped.none_read parse (number + 1)) ∙ is
+after_skipped {rest = rest} {count = count} parse number said skipped is = grind (arith, skipped.none_read)
 
 module _ (said : List Mapping) (rs rest : List Reading) (x : Result Entry Error) (whole : mappings_in rs ≡ said) (first : rs ≡ reading_of x ∷ rest) where
   split_mappings : said ≡ option_to_list (result_ok (reading_of x)) ++ mappings_in rest
@@ -51,3 +49,7 @@ pub length_mappings_in : (rs : List Reading) → length (mappings_in rs) ≤ len
 unfolding mappings_in
 length_mappings_in [] = omega arith
 length_mappings_in (r ∷ rs) = grind (arith, length_mappings_in rs)
+
+pub ruleset line_laws = (after_skipped, nothing_left, readings_from-some, readings_from-none)
+
+pub ruleset good_laws = (mappings_in-ok, mappings_in-err, mappings_in-nil)

@@ -1,10 +1,10 @@
 -- Comments and blank lines that are skipped.
-use Rattle.std.proofs.Common.{◌≡◌, ◌≢◌, ◌+◌, ◌<◌, ◌≤◌, ℕ, zero, suc, true, Some, None, option_to_list, List, [], ◌∷◌, ◌++◌, length, length-append, take, drop, slice_index, refl, sym, ap, subst, ◌∙◌, arith, ⊎_elim}
-use Rattle.std.proofs.lemmas.Bool.{cases_lt, cond-true, eq-eqb, eqb-true}
+use Rattle.std.proofs.lemmas.Grind.{common_steps}
+use Rattle.std.proofs.Common.{◌≡◌, ◌≢◌, ◌+◌, ◌<◌, ◌≤◌, ℕ, true, Some, None, option_to_list, List, [], ◌∷◌, ◌++◌, length, length-append, take, drop, slice_index, refl, sym, ap, ◌∙◌, arith}
 use Rattle.std.specs.Char.{is_whitespace}
 use Rattle.bstr.specs.Find.{IsFirstByte, is_byte}
 use Rattle.mailmap_entries.specs.Folding.{Text}
-use Rattle.mailmap_grammar.specs.Lines.{Reading, Skips, pieces, reading_by, readings_from, unless_blank}
+use Rattle.mailmap_grammar.specs.Lines.{Reading, Skips, pieces, reading_by, readings_from}
 use Rattle.mailmap_grammar.specs.Trimming.{trim}
 use Rattle.mailmap_grammar.proofs.LineFeeds.{pieces-line}
 use Rattle.mailmap_grammar.proofs.SplitOnce.{held_before, split_at}
@@ -27,17 +27,6 @@ one_skipped bytes rest next count feed h first none is =
           ∙ ap (λ k. readings_from read k (pieces next)) (omega arith);
     }
 
--- a line that begins with `#` says nothing
-pub comment : (says : ℕ → Text → Reading) (n : ℕ) (bs : List ℕ) (feed : ℕ) → 0 < length bs → slice_index bs 0 ≡ 35 → IsFirstByte (is_byte 10) bs (Some feed) → reading_by says n (take feed bs) ≡ None
-comment says n [] feed some first h = absurd (omega arith)
-comment says n (b ∷ s) zero some first h = let at : b ≡ 10 = eqb-true _ _ h.1 in absurd (omega (arith, first, at))
-comment says n (b ∷ s) (suc feed) some first h = cond-true _ _ _ (eq-eqb b 35 first)
-
--- a line of white space says nothing
-pub blank : (says : ℕ → Text → Reading) (n : ℕ) (z : Text) → trim z ≡ [] → reading_by says n z ≡ None
-blank says n [] e = ap (unless_blank says n) e
-blank says n (b ∷ s) e = grind arith
-
 -- the bytes before `end` are white space, and no line feeds
 pub record AreBlank (bs : List ℕ) (end : ℕ) : Type 0 where
   pub within : end ≤ length bs
@@ -49,9 +38,4 @@ no_blanks bs = record { within = omega arith; no_feed = λ k l. absurd (omega ar
 
 pub one_blank : (bs : List ℕ) (end : ℕ) → AreBlank bs end → end < length bs → slice_index bs end ≢ 10 → is_whitespace (slice_index bs end) ≡ true → slice_index bs end < 128 → AreBlank bs (end + 1)
 one_blank bs end h lt other white small =
-    let b = slice_index bs end in
-    record {
-      within = omega arith;
-      no_feed = λ k l. ⊎_elim (λ before. h.no_feed k before) (λ after. let e : k ≡ end = omega arith in subst (λ j. slice_index bs j ≢ 10) (sym e) other) (cases_lt k end);
-      blank = ap trim (last_at bs end (end + 1) b lt refl refl) ∙ trim-ascii_end b (take end bs) white small ∙ h.blank;
-    }
+    grind (arith, common_steps, h.no_feed, last_at, trim-ascii_end)

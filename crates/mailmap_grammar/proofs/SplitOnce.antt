@@ -1,5 +1,5 @@
 -- A text split at the first occurrence of a byte.
-use Rattle.std.proofs.Common.{◌≡◌, ◌≢◌, ◌⊎◌, ◌+◌, ◌-◌, ◌<◌, ℕ, Some, None, option_map, List, [], ◌∷◌, ◌++◌, length, take, drop, slice_index, get_or-take, length-take-le, take-append-drop, refl, sym, ap, ◌∙◌, arith, inl, inr, ⊎_elim}
+use Rattle.std.proofs.Common.{◌≡◌, ◌≢◌, ◌⊎◌, ◌+◌, ◌-◌, ◌<◌, ℕ, Some, None, option_map, List, [], ◌∷◌, ◌++◌, length, take, drop, slice_index, get_or-take, length-take-le, take-append-drop, refl, ap, ◌∙◌, arith, inl, inr, ⊎_elim}
 use Rattle.std.proofs.lemmas.Bool.{cases_eq, cond-true, cond-false, ne_eqb, eq-eqb, eqb-true}
 use Rattle.std.proofs.lemmas.List.{drop_more, take_rest}
 use Rattle.std.proofs.lemmas.List.Elements.{All-from_get_or, All-from_recursion, recursion_from_All}
@@ -31,9 +31,7 @@ module _ (x : ℕ) where
   none_held s none = recursion_from_All _ s (All-from_get_or (λ y. y ≢ x) s 0 none)
 
   pub held_before : (s : List ℕ) (k : ℕ) → IsFirstByte (is_byte x) s (Some k) → HoldsNo x (take k s)
-  held_before s k h =
-      let size = length-take-le k s (omega (arith, h.0.high)) in
-      none_held (take k s) (λ j lt is. h.0.before j (omega arith) (omega arith) (eq-eqb _ _ (sym (get_or-take k s j 0 (omega arith)) ∙ is)))
+  held_before s k h = grind (arith, h.0.before, length-take-le, none_held, eq-eqb, get_or-take)
 
   pub split_at : (s : List ℕ) (k : ℕ) → IsFirstByte (is_byte x) s (Some k) → s ≡ take k s ++ x ∷ drop (k + 1) s
   split_at s k h = cc (take-append-drop k s, drop_more s k 0 h.0.high, eqb-true _ _ h.1)
@@ -45,3 +43,7 @@ split_once-none b s h = once-none b s (none_held b s (λ k l is. h k (omega arit
 pub split_once-some : (b : ℕ) (s : List ℕ) (k : ℕ) → IsFirstByte (is_byte b) s (Some k)
     → split_once b s ≡ Some (take k s, take (length s - (k + 1)) (drop (k + 1) s))
 split_once-some b s k h = cc (split_at b s k h, once-some b (take k s) (drop (k + 1) s) (held_before b s k h), take_rest s (k + 1))
+
+pub ruleset split_laws = (split_once-none, split_once-some)
+
+pub ruleset held_laws = (held_at, none_held, eq-eqb, eqb-true)

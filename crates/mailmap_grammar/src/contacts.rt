@@ -37,6 +37,7 @@ pub fn contact_of(line: &[u8]) -> ParsedContact<'_>
 /// Splits a text at its first `<` and the first `>` after it. Both contacts of a mailmap line are parsed by this, and
 /// also the contacts to look up.
 #[inline(always)]
+#[tactic(auto, using(crate::proofs::SplitOnce::split_laws))]
 pub fn parse_name_and_email(text: &[u8]) -> ParsedContact<'_>
     ensures { parsed_contact_of result ≡ trimmed_contact (cut text.now) }
 {

@@ -115,6 +115,7 @@ impl<'a> Model for Lines<'a> {
 }
 
 impl<'a> Lines<'a> {
+    #[tactic(auto, using(crate::proofs::FaultLines::line_laws))]
     fn new(buf: &'a [u8], strictness: Strictness) -> Self
         ensures value { result ≡ readings_from (reading_by (line_reader strictness)) 1 (pieces buf.now) }
         ensures at_most_one { length result ≤ length (pieces buf.now) }
@@ -136,6 +137,7 @@ impl<'a> Iterator for Lines<'a> {
 
     ghost remaining = { item_count (λ s. s) };
 
+    #[tactic(auto, using(crate::proofs::Readings::line_laws))]
     fn next(&mut self) -> Option<Result<Entry<'a>, Error<'a>>> {
         loop {
             let (rest, count) = skip_comments_and_blanks(self.rest);
@@ -151,6 +153,7 @@ impl<'a> Iterator for Lines<'a> {
 
 // The first line without its line feed, and what comes after it.
 #[inline(always)]
+#[tactic(auto, using(crate::proofs::LineFeeds::open_laws))]
 fn first_line(bytes: &[u8]) -> Option<(&[u8], &[u8])>
     ensures { MatchOption result (bytes.now ≡ []) (λ p. (pieces bytes.now ≡ p.0.now ∷ pieces p.1.now)
         × (length p.1.now < length bytes.now)) }
@@ -187,6 +190,7 @@ impl<'a> Iterator for GoodLines<'a> {
 
     ghost remaining = { item_count (λ s. s) };
 
+    #[tactic(auto, using(crate::proofs::Readings::good_laws))]
     fn next(&mut self) -> Option<Entry<'a>> {
         while let Some(item) = self.lines.next() {
             if let Ok(entry) = item {

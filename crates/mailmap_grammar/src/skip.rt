@@ -1,5 +1,5 @@
 //! Skips comments and blank lines that are easy to recognize, without parsing them.
-ghost use Rattle.std.specs.Prelude.{◌≡◌, ◌<◌, ℕ, IfSome, None, Some, length, slice_index, take, []};
+ghost use Rattle.std.specs.Prelude.{◌≡◌, ℕ, IfSome, None, Some, take, []};
 ghost use Rattle.mailmap_grammar.specs.Trimming.{trim};
 ghost use Rattle.bstr.specs.Find.{IsFirstByte, is_byte};
 ghost use Rattle.mailmap_entries.specs.Folding.{Text};
@@ -40,18 +40,10 @@ fn silent_feed(bytes: &[u8]) -> Option<usize>
     ensures none_read { IfSome result (λ feed. (says : ℕ → Text → Reading) (n : ℕ)
         → reading_by says n (take feed bytes.now) ≡ None) }
 {
-    if bytes.first() == Some(&b'#') {
-        return comment_feed(bytes);
+    if bytes.first() != Some(&b'#') {
+        return blank_feed(bytes);
     }
-    blank_feed(bytes)
-}
-
-// The first line feed of a comment. A line that is just `#` comes so often that it is tested for first.
-#[inline(always)]
-fn comment_feed(bytes: &[u8]) -> Option<usize>
-    requires { (0 < length bytes.now) × (slice_index bytes.now 0 ≡ 35) }
-    ensures { IfSome result (λ feed. IsFirstByte (is_byte 10) bytes.now (Some feed)) }
-{
+    // A line that is just `#` comes so often that it is tested for first.
     if bytes.len() > 1 && bytes[1] == b'\n' {
         return Some(1);
     }
@@ -60,6 +52,7 @@ fn comment_feed(bytes: &[u8]) -> Option<usize>
 
 // The line feed after white space.
 #[inline(always)]
+#[tactic(auto, using(crate::proofs::Skipped::no_blanks, crate::proofs::Skipped::one_blank))]
 fn blank_feed(bytes: &[u8]) -> Option<usize>
     ensures first { IfSome result (λ feed. IsFirstByte (is_byte 10) bytes.now (Some feed)) }
     ensures blank { IfSome result (λ feed. trim (take feed bytes.now) ≡ []) }

@@ -54,6 +54,7 @@ fn is_writable_email(email: &[u8]) -> bool
     is_trimmed(email) && is_line_without(email, b'>')
 }
 
+#[tactic(auto, using(crate::proofs::Trimmed::whole))]
 fn is_trimmed(text: &[u8]) -> bool
     ensures { IsTrue result ↔ (text.now ≡ spec_trim text.now) }
 {
@@ -67,6 +68,7 @@ fn is_line_without(text: &[u8], byte: u8) -> bool
     holds_no(text, byte) && holds_no(text, b'\n')
 }
 
+#[tactic(auto, using(crate::proofs::SplitOnce::held_laws))]
 fn holds_no(text: &[u8], byte: u8) -> bool
     ensures { IsTrue result ↔ HoldsNo byte text.now }
 {

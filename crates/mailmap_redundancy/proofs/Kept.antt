@@ -21,7 +21,7 @@ use Rattle.mailmap_entries.proofs.Parts.{filter_all, is_some-option_map, last-ap
 use Rattle.mailmap_entries.proofs.Unique.{normal_unique}
 use Rattle.mailmap_redundancy.specs.Origins.{entries_of_email, last_with}
 use Rattle.mailmap_redundancy.specs.Redundancy.{IsRedundant, IsPass, done, goes, stays, AreEffective, settled, again, IsSublist, LocatedMapping, entries, entries_of_key, last_position}
-use Rattle.mailmap_redundancy.specs.Numbers.{KeyOrigins, Said, key_origins}
+use Rattle.mailmap_redundancy.specs.Numbers.{KeyOrigins, Said, key_origins, said_by}
 use Rattle.mailmap_redundancy.proofs.Redundant.{LocatedMappings, Stays, good, keyed_good, mailed_good, none_of_key, own_email, own_key, redundant_or_not, stays_decides, there_by, unaccepted_redundant}
 use Rattle.mailmap_redundancy.proofs.Sublists.{sublist_itself, sublist_keep, sublist_skip, sublist_trans}
 use Rattle.std.proofs.lemmas.Map.Lookups.{exact_bytes}
@@ -228,9 +228,6 @@ no_first : {X : Type 0} (l : List X) → first l ≡ None → l ≡ []
 no_first [] none = refl
 no_first (x ∷ l) none = absurd (cc)
 
-abbrev said_by : LocatedMappings → LocatedMappings → Said
-said_by l m = record { of_key = key_origins l; spelling = first m }
-
 -- the entries of a key and of its email: ps and es before an entry, ss and fs after it
 carries : (ps pre ps' ss ss' es es' fs fs' : LocatedMappings) → ps ≡ pre ++ ps'
     → ((q : LocatedMapping → Bool) → list_any q ss' ≡ true → list_any q ss ≡ true)
@@ -411,7 +408,7 @@ module _ (Q : LocatedMappings → LocatedMapping → Type 0) (m : Met Q) where
   would_go : (keyed m.kept k ≡ [] → keyed m.left k ≡ keyed m.xs k)
       → (mailed m.kept k.0 ≡ [] → mailed m.left k.0 ≡ mailed m.xs k.0) → ⊥
   would_go keys emails =
-      m.busy ((stays_decides m.kept m.x m.xs fine).1 (carried (is_some m.x.entry.old_name) m.x _ _ _ _
+      m.busy ((stays_decides m.kept m.x m.xs fine).1 (carried (is_some k.1) m.x _ _ _ _
       (carries (keyed m.kept k) (m.follows.keys k).0 (keyed m.next k) (keyed m.xs k) (keyed m.left k)
       (mailed m.kept k.0) (mailed m.next k.0) (mailed m.xs k.0) (mailed m.left k.0) (m.follows.keys k).1
       (none_added Q (λ y. eq_by_cmp key_cmp k (key y.entry)) (m.kept ++ m.x ∷ []) m.xs m.left m.walk)

@@ -67,8 +67,12 @@ pub record Said : Type 0 where
   pub of_key : KeyOrigins
   pub spelling : Option LocatedMapping
 
+-- the key has the entries in the first list, and its email those in the second
+abbrev pub said_by : List LocatedMapping → List LocatedMapping → Said
+said_by keyed mailed = record { of_key = key_origins keyed; spelling = first mailed }
+
 abbrev pub said : List LocatedMapping → Key → Said
-said xs k = record { of_key = key_origins (entries_of_key xs k); spelling = first (entries_of_email xs k.0) }
+said xs k = said_by (entries_of_key xs k) (entries_of_email xs k.0)
 
 abbrev pub first_of : EmailEntries → Option LocatedMapping
 first_of s = referred s.first
@@ -78,7 +82,7 @@ said_of s = record { of_key = key_origins_of s.of_key; spelling = first_of s.of_
 
 -- what one entry says of its own key and email
 abbrev pub said_of_one : LocatedMapping → Said
-said_of_one x = record { of_key = key_origins (x ∷ []); spelling = Some x }
+said_of_one x = said_by (x ∷ []) (x ∷ [])
 
 -- of a range followed by another
 abbrev pub joined_said : Said → Said → Said
@@ -94,15 +98,10 @@ joined_said a b = record {
 
 -- the value of a key with or without an old name, of which this is said
 abbrev pub value_said : Bool → Said → Mapping
-value_said is_named s = if is_named then record {
-  new_name = option_and_then (λ x. x.entry.new_name) s.of_key.last;
-  new_email = option_and_then (λ x. x.entry.new_email) s.of_key.last;
-  old_name = option_and_then (λ x. x.entry.old_name) s.of_key.first;
-  old_email = unwrap_or (option_map (λ x. x.entry.old_email) s.spelling) [];
-} else record {
-  new_name = option_and_then (λ x. x.entry.new_name) s.of_key.name;
-  new_email = option_and_then (λ x. x.entry.new_email) s.of_key.email;
-  old_name = None;
+value_said is_named s = record {
+  new_name = option_and_then (λ x. x.entry.new_name) (if is_named then s.of_key.last else s.of_key.name);
+  new_email = option_and_then (λ x. x.entry.new_email) (if is_named then s.of_key.last else s.of_key.email);
+  old_name = if is_named then option_and_then (λ x. x.entry.old_name) s.of_key.first else None;
   old_email = unwrap_or (option_map (λ x. x.entry.old_email) s.spelling) [];
 }
 
@@ -117,8 +116,8 @@ value_of v = record {
 -- whether the key of x is still there without x, and has the same value
 abbrev pub is_redundant : Said → LocatedMapping → Said → Bool
 is_redundant before x after = is_some (joined_said before after).of_key.last
-    && same_entry (value_said (is_some x.entry.old_name) (joined_said (joined_said before (said_of_one x)) after))
-    (value_said (is_some x.entry.old_name) (joined_said before after))
+    && same_entry (value_said (is_some (key x.entry).1) (joined_said (joined_said before (said_of_one x)) after))
+    (value_said (is_some (key x.entry).1) (joined_said before after))
 
 -- what the entries after each entry say of its key and its email; the last entry's comes first
 abbrev pub said_after_each : List LocatedMapping → List Said

@@ -56,8 +56,8 @@ impl<'p, 'a> Effective<'p, 'a> {
         self.last_of_key(&Key::of(entry))
     }
 
-    /// The entries behind the answer of all entries to a name and an email. Dropping all other effective entries would
-    /// not change this answer, nor that of git.
+    /// The entries behind the answer of all entries to a name and an email, and behind that of git if it has read the same
+    /// entries. Dropping all other effective entries would change neither.
     #[tactic(auto, using(crate::proofs::Giving::reduced_origins, crate::proofs::Giving::reduced_git))]
     pub fn origins(&self, name: &[u8], email: &[u8]) -> Origins<'p, 'a>
         ensures origins { origins_of result ≡ spec_origins self.now.kept name.now email.now }

@@ -83,7 +83,8 @@ fn each_later<'p, 'a>(
 }
 
 // Whether an entry is redundant between the entries kept before it and those after it: without it, its key is still
-// there, and has the same value.
+// there, and has the same value. That decides for the whole normal list, since the value has the spelling of the email,
+// and nothing else of this entry reaches other keys.
 fn is_redundant(before: Summary<'_, '_>, located: &LocatedEntry<'_>, after: Summary<'_, '_>) -> bool
     ensures { result ≡ spec_is_redundant (said_of before.entry) (located_of located.now) (said_of after.entry) }
 {

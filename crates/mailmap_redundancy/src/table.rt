@@ -128,7 +128,7 @@ impl<'a> Value<'a> {
 }
 
 /// A summary for each key and one for each email, both indexed by the numbers of keys: that of an email is the number of
-/// the key without a name.
+/// the key without a name. A table has neither the keys nor the entries, so clauses speak of all those that it fits.
 #[derive(Drop)]
 pub(crate) struct Table<'p, 'a> {
     pub(crate) keys: Vec<KeySummary<'p, 'a>>,

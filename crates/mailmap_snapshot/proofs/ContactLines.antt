@@ -1,7 +1,7 @@
 -- The texts that are the lines of contacts.
 use Rattle.std.proofs.Common.{◌≡◌, ◌≢◌, ◌⊎◌, ◌-◌, ◌<◌, ◌&&◌, ◌==◌, ℕ, Bool, true, false, nat_lt, List, [], ◌∷◌, ◌++◌, length, map, slice_index, take, take_all, ⊎_elim, inl, inr, append-nil, append_assoc, refl, sym, ap, subst, ◌∙◌, arith}
 use Rattle.std.specs.List.{AllByRecursion, AllZip}
-use Rattle.std.proofs.lemmas.Bool.{false≢true, cases_Bool, cond-true, cond-false, ltb-true, ne_eqb, eq-eqb, eqb-true, and_from, and_parts, and_right}
+use Rattle.std.proofs.lemmas.Bool.{cases_Bool, cond-true, cond-false, ltb-true, ne_eqb, eq-eqb, eqb-true, and_from, and_parts, and_right}
 use Rattle.std.proofs.lemmas.Bool.Decides.{nat_tests}
 use Rattle.std.proofs.lemmas.List.{map-append, get_or_append_left, get_or_push, length_push, take_at}
 use Rattle.bstr.specs.Text.{lines_of, no_cr, without_terminator}
@@ -40,9 +40,7 @@ no_cr-cases s = ⊎_elim (λ yes.
 
 -- each piece has one line without its carriage return
 without_return : (piece : Text) → IsWithoutReturn piece (no_cr piece)
-without_return piece = ⊎_elim inl
-    (λ kept. inr (sym kept.0, λ front e. false≢true (sym kept.1 ∙ ap (ends_with 13) (sym kept.0 ∙ e) ∙ is_ended front 13)))
-    (no_cr-cases piece)
+without_return piece = grind (arith, is_ended, no_cr-cases)
 
 only_without : (piece line : Text) → IsWithoutReturn piece line → no_cr piece ≡ line
 only_without piece line (inl return) = ap no_cr return ∙ no_cr-ended line
@@ -52,12 +50,7 @@ only_without piece line (inr (same, other)) = ⊎_elim
 
 -- the lines after whole lines
 pub contact_lines-append : (xs ys : Text) → EndsLine xs → contact_lines (xs ++ ys) ≡ contact_lines xs ++ contact_lines ys
-contact_lines-append xs ys ends =
-    ap (map without_terminator) (lines-append (length xs) xs ys (omega arith) (last xs ends)) ∙ map-append without_terminator (lines_of xs) (lines_of ys)
-  where
-    last : (xs : Text) → EndsLine xs → (length xs ≡ 0) ⊎ (slice_index xs (length xs - 1) ≡ 10)
-    last xs (inl none) = inl (ap length none)
-    last xs (inr (front, is)) = inr (rw is (last_byte front 10))
+contact_lines-append xs ys ends = grind (arith, lines-append, map-append, last_byte)
 
 -- the lines of a piece, its line feed, and more text
 contact_lines-line : (piece rest : Text) → HoldsNo 10 piece → contact_lines (piece ++ 10 ∷ rest) ≡ no_cr piece ∷ contact_lines rest
@@ -72,9 +65,7 @@ contact_lines-line piece rest h =
 -- the lines of a piece without a line feed
 pub contact_lines-open : (l : Text) → HoldsNo 10 l → l ≢ [] → contact_lines l ≡ l ∷ []
 contact_lines-open [] h some = absurd (some refl)
-contact_lines-open (b ∷ l) h some =
-    ap (map without_terminator) (lines-one (b ∷ l) (omega arith) (λ k low. held_at 10 (b ∷ l) k h (omega arith)))
-    ∙ ap (λ t. t ∷ []) (cond-false _ _ _ (and_right _ _ (ne_eqb _ _ (held_at 10 (b ∷ l) (length (b ∷ l) - 1) h (omega arith)))))
+contact_lines-open (b ∷ l) h some = grind (arith, lines-one, held_at, cond-false, and_right, ne_eqb)
 
 pub contact_lines-nil : contact_lines [] ≡ []
 contact_lines-nil = ap (map without_terminator) lines-nil
@@ -83,9 +74,7 @@ contact_lines-nil = ap (map without_terminator) lines-nil
 contact_lines-with_line_feeds : (ps : List Text) (rest : Text) → AllByRecursion (HoldsNo 10) ps → contact_lines (with_line_feeds ps ++ rest) ≡ map no_cr ps ++ contact_lines rest
 contact_lines-with_line_feeds [] rest h = refl
 contact_lines-with_line_feeds (p ∷ ps) rest h =
-    ap contact_lines (append_assoc (p ++ 10 ∷ []) (with_line_feeds ps) rest ∙ append_assoc p (10 ∷ []) (with_line_feeds ps ++ rest))
-    ∙ contact_lines-line p (with_line_feeds ps ++ rest) h.0
-    ∙ ap (λ more. no_cr p ∷ more) (contact_lines-with_line_feeds ps rest h.1)
+    grind (arith, contact_lines-with_line_feeds ps rest h.1, append_assoc, contact_lines-line)
 
 each_without : (ps : List Text) → AllZip IsWithoutReturn ps (map no_cr ps)
 each_without [] = tt

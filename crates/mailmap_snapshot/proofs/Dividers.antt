@@ -9,9 +9,7 @@ use Rattle.mailmap_snapshot.specs.Parts.{EndsLine, IsDividerLine, IsDivider, Par
 
 -- a line `--` has at least two bytes
 IsDividerLine-length : (line : List ℕ) → IsDividerLine line → 2 ≤ length line
-IsDividerLine-length line (inl is) = omega (arith, ap length is)
-IsDividerLine-length line (inr (inl is)) = omega (arith, ap length is)
-IsDividerLine-length line (inr (inr is)) = omega (arith, ap length is)
+IsDividerLine-length line h = grind arith
 
 -- a line that is followed by something ends with a line feed
 line_ends : (bs : List ℕ) → line_len bs < length bs → (front : List ℕ) × (take (line_len bs) bs ≡ front ++ 10 ∷ [])
@@ -32,24 +30,18 @@ line_len-feed (x ∷ xs) ys = grind (arith, line_len-feed xs ys)
 -- a line `--` at the start of some bytes is their first line
 first_divider : (line after : List ℕ) → IsDivider line after → take (line_len (line ++ after)) (line ++ after) ≡ line
 unfolding line_len
-first_divider line after (inl is, last) = rw is
-first_divider line after (inr (inl is), last) = rw is
-first_divider line after (inr (inr is), last) = rw (last is, is)
+first_divider line after h = grind arith
 
 -- without their first bytes, whole lines still end a line
 EndsLine-drop : (n : ℕ) (xs : List ℕ) → EndsLine xs → EndsLine (drop n xs)
 EndsLine-drop n xs (inl none) = inl (drop_all n xs (omega (arith, ap length none)))
-EndsLine-drop n xs (inr (front, is)) = ⊎_elim
-    (λ part. inr (drop n front, ap (drop n) is ∙ drop-append-le n front (10 ∷ []) (omega (arith, ap length is, length_push front 10))))
-    (λ whole. inl (drop_all n xs whole)) (cases_lt n (length xs))
+EndsLine-drop n xs (inr (front, is)) = grind (arith, drop-append-le, length_push, drop_all)
 
 -- if the first line isn't `--`, the input isn't split within it
 past_line : (before line after : List ℕ) → EndsLine before → IsDivider line after → (IsDividerLine (take (line_len (before ++ (line ++ after))) (before ++ (line ++ after))) → ⊥)
     → line_len (before ++ (line ++ after)) ≤ length before
-past_line before line after (inl none) divider other =
-    absurd (other (rw none (rw (first_divider line after divider) divider.0)))
-past_line before line after (inr (front, is)) divider other =
-    omega (arith, ap length is, length_push front 10, ap line_len (ap (λ b. b ++ (line ++ after)) is ∙ append_assoc front (10 ∷ []) (line ++ after)), line_len-feed front (line ++ after))
+past_line before line after (inl none) divider other = grind (arith, other, first_divider)
+past_line before line after (inr (front, is)) divider other = grind (arith, length_push, append_assoc, line_len-feed)
 
 some_line : (bs line : List ℕ) (left : List (List ℕ)) → line ∷ left ≡ lines_of bs → 0 < length bs
 some_line [] line left is = let none = is ∙ lines-nil in cc

@@ -1,11 +1,10 @@
 -- The orders of times and of signatures are total, and no two different ones compare as equal.
+use Rattle.std.proofs.Common.{arith}
 use Rattle.std.proofs.Common.{◌≡◌, Equal}
 use Rattle.std.specs.Prelude.{◌↔◌}
 use Rattle.std.specs.Cmp.{IsTotalOrder}
 use Rattle.std.specs.Cmp.Lexicographic.{nat_list_cmp_total}
-use Rattle.std.specs.Ordering.{int_cmp}
 use Rattle.std.proofs.lemmas.Cmp.{int_cmp_total, on_total, then_total}
-use Rattle.mailmap_entries.specs.Folding.{text_cmp}
 use Rattle.std.proofs.lemmas.Map.Lookups.{exact_signed}
 use Rattle.mailmap_entries.proofs.Folding.{equal-same}
 use Rattle.mailmap_entries.proofs.Keys.{both_equal, exactly}
@@ -14,9 +13,7 @@ use Rattle.mailmap_snapshot.specs.Times.{time_cmp}
 use Rattle.mailmap_snapshot.specs.declared.date.Time.{Time}
 
 same_time : (a b : Time) → time_cmp a b ≡ Equal → a ≡ b
-same_time a b e =
-    let parts = both_equal (int_cmp a.seconds b.seconds) (int_cmp a.offset b.offset) e in
-    λ i. record { seconds = exact_signed a.seconds b.seconds parts.0 i; offset = exact_signed a.offset b.offset parts.1 i }
+same_time a b e = grind (arith, both_equal, exact_signed)
 
 pub times_total : IsTotalOrder time_cmp
 times_total = then_total (on_total (λ (t : Time). t.seconds) int_cmp_total) (on_total (λ (t : Time). t.offset) int_cmp_total)
@@ -26,13 +23,7 @@ times_exact = exactly times_total same_time
 
 same_signature : (a b : SignatureFields) → signature_cmp a b ≡ Equal → a ≡ b
 same_signature a b e =
-    let first = both_equal (text_cmp a.name b.name) _ e in
-    let second = both_equal (text_cmp a.email b.email) (time_cmp a.time b.time) first.1 in
-    λ i. record {
-      name = equal-same a.name b.name first.0 i;
-      email = equal-same a.email b.email second.0 i;
-      time = same_time a.time b.time second.1 i;
-    }
+    grind (arith, equal-same a.name b.name, equal-same a.email b.email, same_time a.time b.time)
 
 pub signatures_total : IsTotalOrder signature_cmp
 signatures_total = then_total (on_total (λ (s : SignatureFields). s.name) nat_list_cmp_total)

@@ -18,15 +18,11 @@ use Rattle.mailmap_tables.proofs.Grouped.{none_has, scan_missing, scan_name_at, 
 use Rattle.std.specs.Cmp.{tied_itself}
 use Rattle.std.specs.Cmp.Lexicographic.{nat_list_cmp_total}
 use Rattle.std.specs.Ordering.{eq_by_cmp, ordering_reverse}
-use Rattle.std.proofs.lemmas.Bool.{false_from_ne_true}
 use Rattle.std.proofs.lemmas.List.Elements.{All-from_recursion}
 use Rattle.std.proofs.lemmas.List.Folds.{list_any_none}
 use Rattle.std.proofs.lemmas.List.Sums.{length-filter, sum_by-append}
-use Rattle.std.proofs.lemmas.Map.Views.{tells_apart}
 use Rattle.std.proofs.lemmas.Map.Text.{is_eq-slice_cmp}
-use Rattle.std.proofs.lemmas.Map.Lookups.{exact_bytes}
 use Rattle.mailmap_entries.specs.Entries.{Mapping}
-use Rattle.mailmap_entries.proofs.Joined.{filter_none}
 use Rattle.mailmap_entries.proofs.Parts.{all_weaker, all_map, filter_all}
 use Rattle.mailmap_entries.proofs.Building.{other_text}
 
@@ -43,9 +39,7 @@ pub ruleset same_text = (is_eq-slice_cmp, refl)
 -- the entries of one more email add one to the count
 some_add : (k : Text) (rs rest : List Mapping) → rs ≢ [] → AllByRecursion (λ x. folded x.old_email ≡ k) rs → AllByRecursion (λ x. eq_by_cmp text_cmp k (folded x.old_email) ≡ false) rest → email_count (rs ++ rest) ≡ email_count rest + 1
 some_add k [] rest says same other = absurd (says refl)
-some_add k (r ∷ []) rest says same other =
-    let none : list_any (is_for_email r.old_email) rest ≡ false = ap (λ t. list_any (λ d. eq_by_cmp text_cmp t (folded d.old_email)) rest) same.0 ∙ list_any_none _ rest (All-from_recursion _ rest other) in
-    ap (λ b. if b then email_count rest else email_count rest + 1) none
+some_add k (r ∷ []) rest says same other = grind (arith, list_any_none, All-from_recursion)
 some_add k (r ∷ s ∷ rs) rest says same other =
     let tied : is_for_email r.old_email s ≡ true = ap₂ (eq_by_cmp text_cmp) same.0 same.1.0 ∙ ap is_eq (tied_itself nat_list_cmp_total k) in
     ap (λ b. if b || list_any (is_for_email r.old_email) (rs ++ rest) then email_count (s ∷ rs ++ rest) else email_count (s ∷ rs ++ rest) + 1) tied
@@ -81,11 +75,8 @@ rows_counted k g same =
 
 -- entries for other emails than k are not counted
 none_of_others : (k : Text) (rs : List Mapping) → AllByRecursion (λ x. eq_by_cmp text_cmp k (folded x.old_email) ≡ false) rs → count_by (is_name_of k) rs ≡ 0
-none_of_others k rs other =
-    sym (length-filter (is_name_of k) rs) ∙ ap length (filter_none (is_name_of k) rs (all_weaker rs (λ x apart. ap (λ b. is_some x.old_name && b) apart ∙ never (is_some x.old_name)) other))
-  where
-    never : (b : Bool) → (b && false) ≡ false
-    never b = grind arith
+none_of_others k [] other = refl
+none_of_others k (r ∷ rs) other = grind (arith, none_of_others k rs other.1, other.0)
 
 pub name_count-none : (gs : List EmailGroup) (email : Text) → AllByRecursion (λ g. email_key g ≡ folded email → ⊥) gs → name_count (listing gs) email ≡ 0
 name_count-none gs email other = none_of_others (folded email) (listing gs) (other_rows (λ g. email_key g ≡ folded email → ⊥) (folded email) (λ g. other_text (folded email) (email_key g)) gs other)
@@ -156,3 +147,5 @@ module _ (gs : List EmailGroup) (are : AreGroups gs) (email : Text) (i : ℕ) (f
     scan_at_email le none =
         scan_own_at gs are name email i (group_of pool r ns) within (sym (get_or_from_slice_get gs i (group_of pool r ns) (group_of pool r ns) read)) same
         (none_has name_key (folded name) (map (name_group pool) ns) j (omega (arith, le, length-map ns (name_group pool))) none)
+
+pub ruleset name_laws = (names_ascend, names_counted)

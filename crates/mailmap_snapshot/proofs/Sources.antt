@@ -50,9 +50,7 @@ unfolding merged_mappings
 append_marked [] ts [] ns are = (refl, λ more. more)
 append_marked [] ts (m ∷ ms) ns are = absurd are
 append_marked (s ∷ ss) ts [] ns are = absurd are
-append_marked (s ∷ ss) ts (m ∷ ms) ns are =
-    let rest = append_marked ss ts ms ns are.1 in
-    (cc (rest.0, append_assoc (cond m (source_mappings s) []) (merged_mappings ss ms) (merged_mappings ts ns)), λ more. (are.0, rest.1 more))
+append_marked (s ∷ ss) ts (m ∷ ms) ns are = grind (arith, append_marked ss ts ms ns are.1, append_assoc)
 
 -- more sources
 pub marked_more : (before : List Mapping) (ss ts : List Source) (ms ns : List Bool) (old new : List Mapping) → IsMarked before ss ms old

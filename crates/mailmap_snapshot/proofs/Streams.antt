@@ -1,9 +1,9 @@
 -- Contacts that arrive in parts get the same answers as all at once, line by line.
 use Rattle.std.proofs.Common.{set, ◌≡◌, ◌+◌, ◌-◌, ◌<◌, ℕ, Some, None, List, [], ◌∷◌, ◌++◌, length, take, drop, append-nil, append_assoc, refl, sym, ap, subst, ◌∙◌, arith, inl, inr, ◌≢◌, unwrap_or}
 use Rattle.std.specs.List.{flat_map}
-use Rattle.std.proofs.lemmas.Bool.{eq-eqb, eqb-true}
+use Rattle.std.proofs.lemmas.Bool.{eq-eqb, eqb-false, eqb-true}
 use Rattle.std.proofs.lemmas.Grind.{flat_map-append}
-use Rattle.std.proofs.lemmas.List.{length-drop, length-take-le, take_rest, nil_from_length}
+use Rattle.std.proofs.lemmas.List.{drop_at, length-drop, length-take-le, take_rest, nil_from_length}
 use Rattle.std.proofs.Math.Seq.{take-add, take-length}
 use Rattle.bstr.specs.Find.{IsFirstByte, is_byte}
 use Rattle.mailmap_entries.specs.Entries.{Mapping}
@@ -38,8 +38,7 @@ no_answers h kept none = ap (answers h) (nil_from_length kept none) ∙ ap (flat
 
 -- the answers to lines after whole lines
 pub answers-append : (m : List Mapping) (xs ys : Text) → EndsLine xs → answers m (xs ++ ys) ≡ answers m xs ++ answers m ys
-answers-append m xs ys ends =
-    ap (flat_map (λ line. answer m line ++ 10 ∷ [])) (contact_lines-append xs ys ends) ∙ flat_map-append (λ line. answer m line ++ 10 ∷ []) (contact_lines xs) (contact_lines ys)
+answers-append m xs ys ends = grind (arith, contact_lines-append, flat_map-append)
 
 -- whole lines after whole lines are whole lines
 EndsLine-append : (xs ys : Text) → EndsLine xs → EndsLine ys → EndsLine (xs ++ ys)
@@ -68,8 +67,7 @@ front-parts : (m : List Mapping) (kept : Text) (parts : List Text) (text rest : 
     → AnswersFront m (kept ++ flat_map (λ part. part) parts) text rest
 front-parts m kept [] text rest (none, same) = rw (none, same, append-nil kept) (front-none m kept)
 front-parts m kept (part ∷ parts) text rest (made, next, later, is, first, others) =
-    rw (is, ← append_assoc kept part (flat_map (λ p. p) parts))
-    (front-more m (kept ++ part) made next (flat_map (λ p. p) parts) later rest first (front-parts m next parts later rest others))
+    grind (arith, front-parts m next parts later rest others, append_assoc, front-more)
 
 -- the answers to the parts and to the kept bytes are the answers to all bytes
 pub all-parts : (m : List Mapping) (parts : List Text) (text kept : Text) → AnswersParts m [] parts text kept → text ++ answers m kept ≡ answers m (flat_map (λ part. part) parts)
@@ -81,14 +79,7 @@ pub ruleset stream_laws = (front-none, front-more, front-all, all-parts)
 
 -- a part without a line feed is kept as a whole
 pub kept_part : (m : List Mapping) (kept part before : Text) → IsFirstByte (is_byte 10) part None → HasRead m kept part before (length part) (kept ++ part) before
-kept_part m kept part before h = record {
-  within = omega arith;
-  some = λ some. some;
-  made = [];
-  text_is = sym (append-nil before);
-  front = rw (take-length part) (front-none m (kept ++ part));
-  no_feed = λ held. all_append _ kept part held (none_held 10 part (λ k l is. h k (omega arith) l (eq-eqb _ _ is)));
-}
+kept_part m kept part before h = grind (arith, h, append-nil, take-length, front-none, all_append, none_held, eq-eqb)
 
 -- a line feed ends a line, and answers the kept bytes with it
 pub ended_part : (m : List Mapping) (kept part before : Text) (feed : ℕ) → IsFirstByte (is_byte 10) part (Some feed)
@@ -135,3 +126,7 @@ next {m = m} {kept = kept} {part = part} {before = before} {left = left} {last =
 pub cached : (m : List Mapping) (old new : List CachedLine) (k : CachedLine) → Inserts old k new → AreCachedAnswers m old → k.answer ≡ answers m k.line → AreCachedAnswers m new
 cached m old new k (inl is) all right = All-same (λ k. k.answer ≡ answers m k.line) new (old ++ k ∷ []) is (All-push (λ k. k.answer ≡ answers m k.line) old k all right)
 cached m old new k (inr (i, within, is)) all right = All-same (λ k. k.answer ≡ answers m k.line) new (set old i k) is (All-set (λ k. k.answer ≡ answers m k.line) old i k right all)
+
+pub ruleset finish_laws = (no_answers, open_answers, eqb-true, eqb-false, nil_from_length, append-nil)
+
+pub ruleset cache_laws = (cached, drop_at, take_rest)

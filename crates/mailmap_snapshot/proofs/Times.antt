@@ -1,14 +1,14 @@
 -- A text spells at most one time: it is split at its first space, and each part has one value.
-use Rattle.std.proofs.Common.{◌≡◌, ◌≢◌, ◌+◌, ◌*◌, ◌^◌, ◌<◌, ◌≤◌, ℕ, zero, suc, ℤ, pos, neg_ℤ, Bool, true, false, cond, ◌==◌, Result, Ok, Err, MatchResult, Option, Some, MatchOption, unwrap_or, [], ◌∷◌, ◌++◌, length, get_or, take, drop, refl, sym, ap, ◌∙◌, arith, rules, ⊎_elim, w64, FitsSigned}
+use Rattle.std.proofs.Common.{◌≡◌, ◌≢◌, ◌+◌, ◌*◌, ◌^◌, ◌<◌, ◌≤◌, ℕ, ℤ, pos, neg_ℤ, Bool, true, false, cond, ◌==◌, Result, MatchResult, Option, MatchOption, ◌∷◌, ◌++◌, length, get_or, take, drop, refl, sym, ap, ◌∙◌, arith, rules, ⊎_elim, w64, FitsSigned}
 use Rattle.std.specs.Prelude.{◌↔◌}
-use Rattle.std.proofs.lemmas.Bool.{cases_eq, eq-eqb, ne_eqb}
+use Rattle.std.proofs.lemmas.Bool.{eq-eqb, ne_eqb}
 use Rattle.std.proofs.lemmas.List.{take_at, drop_at}
 use Rattle.std.proofs.lemmas.Str.Parse.{IsNumeralModel, numerals_by_weight, parse_signed_minus, parse_signed_plain}
 use Rattle.std.specs.Result.{OkIff, result_ok}
 use Rattle.std.specs.Str.Parse.{ParsesSigned}
 use Rattle.mailmap_entries.specs.Folding.{Text}
 use Rattle.mailmap_entries.proofs.Parts.{all_tail, all_weaker}
-use Rattle.mailmap_grammar.specs.Lines.{HoldsNo, split_once}
+use Rattle.mailmap_grammar.specs.Lines.{HoldsNo}
 use Rattle.mailmap_grammar.proofs.SplitOnce.{none_held, once-some}
 use Rattle.mailmap_snapshot.specs.Times.{AreDigits, decimal_value, signed, SpellsSeconds, SpellsOffset, Spells, IsTimeOf}
 use Rattle.mailmap_snapshot.specs.declared.date.Time.{Time}
@@ -23,9 +23,7 @@ HoldsNo-digits x ds small are = all_weaker ds (λ d digit is. let low : 48 ≤ d
 
 -- texts that are equal have the same parts before and after their first x
 same_cut : (x : ℕ) (a b c d : Text) → HoldsNo x a → HoldsNo x b → a ++ x ∷ c ≡ b ++ x ∷ d → (a ≡ b) × (c ≡ d)
-same_cut x a b c d p q e =
-    let both : Some (a, c) ≡ Some (b, d) = sym (once-some x a c p) ∙ ap (split_once x) e ∙ once-some x b d q in
-    (ap (λ (o : Option (Text × Text)). (unwrap_or o (a, c)).0) both, ap (λ (o : Option (Text × Text)). (unwrap_or o (a, c)).1) both)
+same_cut x a b c d p q e = grind (arith, once-some x a c p, once-some x b d q)
 
 -- the digits of a text that spells seconds
 abbrev digits_in : Text → Text
@@ -38,28 +36,15 @@ record AreSeconds (negative : Bool) (digits : Text) (seconds : ℤ) : Type 0 whe
   fits : FitsSigned w64 seconds
 
 seconds_spelled : (text : Text) (seconds : ℤ) → SpellsSeconds text seconds → AreSeconds (get_or text 0 0 == 45) (digits_in text) seconds
-seconds_spelled text seconds s = rw s.whole (with_sign s.negative s.digits (record { are = s.are_digits; value = s.value; fits = s.fits }))
-  where
-    with_sign : (negative : Bool) (digits : Text) → AreSeconds negative digits seconds →
-        let text = cond negative (45 ∷ digits) digits in AreSeconds (get_or text 0 0 == 45) (digits_in text) seconds
-    with_sign true digits a = a
-    with_sign false [] a = absurd (omega (arith, a.are.1))
-    with_sign false (d ∷ ds) a =
-        let other : (d == 45) ≡ false = ne_eqb d 45 (HoldsNo-digits 45 (d ∷ ds) (omega arith) a.are.0).0 in
-        rw other a
+seconds_spelled text seconds s = grind (arith, ne_eqb, HoldsNo-digits)
 
 -- a text whose first byte is a `-`
 minus_first : (text : Text) → get_or text 0 0 ≡ 45 → text ≡ 45 ∷ drop 1 text
-minus_first [] first = absurd (omega arith)
-minus_first (b ∷ text) first = ap (λ x. x ∷ text) first
+minus_first text h = grind arith
 
 -- seconds contain no space
 HoldsNo-seconds : (text : Text) (seconds : ℤ) → SpellsSeconds text seconds → HoldsNo 32 text
-HoldsNo-seconds text seconds s = rw s.whole (with_sign s.negative s.digits (HoldsNo-digits 32 s.digits (omega arith) s.are_digits.0))
-  where
-    with_sign : (negative : Bool) (digits : Text) → HoldsNo 32 digits → HoldsNo 32 (cond negative (45 ∷ digits) digits)
-    with_sign true digits h = (omega arith, h)
-    with_sign false digits h = h
+HoldsNo-seconds text seconds s = grind (arith, HoldsNo-digits)
 
 -- the offset of a text, depending on its sign
 abbrev offset_at : Text → ℤ
@@ -79,34 +64,21 @@ IsSecondsOf text r = MatchResult r (SpellsSeconds text) (λ _. (seconds : ℤ) �
 
 -- the least 64-bit number is one further from zero than the greatest
 fits_minus : (n : ℕ) → (n ≤ 2 ^ 63) ↔ FitsSigned w64 (neg_ℤ (pos n))
-fits_minus zero = (λ le. record { sfits = omega arith }, λ f. omega arith)
-fits_minus (suc n) = (λ le. record { sfits = omega arith }, λ f. let h = f.sfits in omega arith)
+fits_minus n = grind arith
 
 -- what `parse` gives for a text with this sign, if P says that the number fits
 parsed : {E : Type 0} (P : Type 0) (text : Text) (r : Result ℤ E) (negative : Bool) → (get_or text 0 0 == 45) ≡ negative → let digits = cond negative (drop 1 text) text in text ≡ cond negative (45 ∷ digits) digits
     → (P ↔ FitsSigned w64 (signed negative (decimal_value digits))) → OkIff r (AreDigits digits × (0 < length digits) × P) (signed negative (decimal_value digits)) → IsSecondsOf text r
-parsed P text (Ok seconds) negative is whole fits h = record {
-  negative = negative;
-  digits = _;
-  whole = whole;
-  are_digits = (h.0.0, h.0.1);
-  value = h.1;
-  fits = rw h.1 (fits.0 h.0.2);
-}
-parsed P text (Err why) negative is whole fits h = λ seconds s.
-    let d = rw is at (seconds_spelled text seconds s) in h (d.are.0, d.are.1, fits.1 (rw d.value at d.fits))
+parsed P text r negative h i j k = grind (arith, seconds_spelled)
 
 -- `parse` gives the seconds that the text spells, unless it begins with `+`
 pub seconds-parse : {E : Type 0} (text : Text) (r : Result ℤ E) → ParsesSigned w64 10 text r → get_or text 0 0 ≢ 43 → IsSecondsOf text r
-seconds-parse text r p no_plus = ⊎_elim
-    (λ minus. parsed _ text r true (eq-eqb _ _ minus) (minus_first text minus) (fits_minus _) (parse_signed_minus decimals w64 text r p minus))
-    (λ other. parsed _ text r false (ne_eqb _ _ other) refl (λ lt. record { sfits = lt }, λ f. f.sfits) (parse_signed_plain decimals w64 text r p no_plus other))
-    (cases_eq (get_or text 0 0) 45)
+seconds-parse text r p no_plus =
+    grind (arith, parsed, eq-eqb, minus_first, fits_minus, parse_signed_minus, decimals, ne_eqb, parse_signed_plain)
 
 -- the result without its error is the seconds that the text spells
 pub seconds-ok : {E : Type 0} (text : Text) (r : Result ℤ E) (o : Option ℤ) → IsSecondsOf text r → o ≡ result_ok r → MatchOption o ((seconds : ℤ) → ¬ SpellsSeconds text seconds) (SpellsSeconds text)
-seconds-ok text (Ok seconds) o h e = rw e h
-seconds-ok text (Err why) o h e = rw e h
+seconds-ok text r o h i = grind arith
 
 abbrev time_of : ℤ → ℤ → Time
 time_of seconds offset = record { seconds = seconds; offset = offset }

@@ -1,11 +1,11 @@
 -- Parsing the line of an entry gives the entry, and parsing the text of a snapshot gives its entries.
-use Rattle.std.proofs.Common.{inl, ◌≡◌, ◌≢◌, ℕ, length, true, [], ◌∷◌, ◌++◌, Option, Some, None, IfSome, unwrap_or, Ok, rules, append_assoc, append-nil, arith, length-append, refl, sym, ap, ◌∙◌, ◌+◌, List, map, All}
+use Rattle.std.proofs.Common.{inl, ◌≡◌, ◌≢◌, ℕ, length, true, [], ◌∷◌, ◌++◌, Option, Some, None, IfSome, unwrap_or, Ok, rules, append_assoc, append-nil, arith, length-append, refl, ap, ◌∙◌, ◌+◌, List, map, All}
 use Rattle.std.proofs.lemmas.Option.{IfSome_then}
-use Rattle.mailmap_grammar.specs.CanonicalText.{IsWritableName, IsWritableEmail, IsWritable, name_part, bracketed_email, email_part, canonical_line, canonical_text}
+use Rattle.mailmap_grammar.specs.CanonicalText.{IsWritableName, IsWritable, name_part, bracketed_email, email_part, canonical_line, canonical_text}
 use Rattle.mailmap_entries.specs.Entries.{Mapping}
 use Rattle.mailmap_entries.specs.Folding.{Text}
 use Rattle.mailmap_entries.specs.Semantics.{is_accepted, IsNormal}
-use Rattle.mailmap_grammar.specs.Lines.{HoldsNo, Reading, ParsedContact, Absent, Unclosed, Closed, cut, trimmed_contact, non_empty, two_contacts, strict_contacts, first_contact, line_reading, strict_line_reading, unless_blank, reading_by, reading, strict_reading, readings_from, pieces, readings, strict_readings, mappings_of, mappings_in}
+use Rattle.mailmap_grammar.specs.Lines.{HoldsNo, Reading, ParsedContact, Absent, Unclosed, Closed, cut, trimmed_contact, non_empty, two_contacts, strict_contacts, first_contact, unless_blank, reading_by, reading, strict_reading, readings_from, pieces, readings, strict_readings, mappings_of, mappings_in}
 use Rattle.mailmap_grammar.specs.Trimming.{trim, BeginsWhite, EndsWhite}
 use Rattle.mailmap_grammar.proofs.Grammar.{alone-none, both-closed, some_said, strict-other, with_email}
 use Rattle.mailmap_grammar.proofs.Cut.{cut-absent, cut-cut_at_closing}
@@ -22,32 +22,18 @@ use Rattle.mailmap_entries.proofs.Normal.{all_good}
 
 -- a byte that is neither a space nor in the name
 HoldsNo-name_part : (x : ℕ) (o : Option Text) → 32 ≢ x → IfSome o (HoldsNo x) → HoldsNo x (name_part o)
-HoldsNo-name_part x None other h = tt
-HoldsNo-name_part x (Some name) other h = all_append _ name (32 ∷ []) h (other, tt)
-
-HoldsNo-bracketed_email : (s : Text) → HoldsNo 10 s → HoldsNo 10 (bracketed_email s)
-HoldsNo-bracketed_email s h = (omega arith, all_append _ s (62 ∷ []) h (omega arith, tt))
-
-HoldsNo-email_part : (o : Option Text) → IfSome o IsWritableEmail → HoldsNo 10 (email_part o)
-HoldsNo-email_part None h = tt
-HoldsNo-email_part (Some s) h = all_append _ (bracketed_email s) (32 ∷ []) (HoldsNo-bracketed_email s h.one_line) (omega arith, tt)
-
-name_line : (o : Option Text) → IfSome o IsWritableName → IfSome o (HoldsNo 10)
-name_line o h = IfSome_then o h (λ s w. w.one_line)
+HoldsNo-name_part x o h i = grind (arith, all_append)
 
 name_opening : (o : Option Text) → IfSome o IsWritableName → IfSome o (HoldsNo 60)
 name_opening o h = IfSome_then o h (λ s w. w.no_opening)
 
 -- trimming removes the space after a name
 trim-name_part : (o : Option Text) → IfSome o IsWritableName → trim (name_part o) ≡ unwrap_or o []
-trim-name_part None h = trim-nil
-trim-name_part (Some name) h = trim-blank_end name ∙ sym h.trimmed
+trim-name_part o h = grind (arith, trim-nil, trim-blank_end)
 
 -- a name that can be written isn't empty
 non_empty-name : (o : Option Text) → IfSome o IsWritableName → non_empty (unwrap_or o []) ≡ o
-non_empty-name None h = refl
-non_empty-name (Some []) h = absurd (h.some refl)
-non_empty-name (Some (b ∷ s)) h = refl
+non_empty-name o h = grind arith
 
 -- ---- the line without the space at its start and without its line feed
 
@@ -59,7 +45,7 @@ canonical_line-then e rest = append_assoc (32 ∷ body e) (10 ∷ []) rest
 
 -- this part of the line has no line feed
 pub one_line : (e : Mapping) → IsWritable e → HoldsNo 10 (32 ∷ body e)
-one_line e w = search (rules, all_append, HoldsNo-name_part, name_line, HoldsNo-email_part, HoldsNo-bracketed_email)
+one_line e w = search (rules, all_append, HoldsNo-name_part)
 
 -- the body doesn't end with white space
 EndsWhite-body : (s r : Text) → EndsWhite (s ++ bracketed_email r) → ⊥
@@ -109,11 +95,18 @@ says both n t (Some nn) None None oe agrees w a =
     rw (cut_only nn oe w.names.0.no_opening w.emails.1.no_closing, trim-name_part (Some nn) w.names.0, ← w.emails.1.trimmed, with_email both n t nn oe [] w.some_old)
     (agrees nn oe [] Absent (ap trimmed_contact (cut-absent [] tt)) (λ e. cc) ∙ alone-none n t nn oe Absent (inl refl) w.names.0.some)
 says both n t nn (Some ne) on oe agrees w a =
-    let rest = 32 ∷ (name_part on ++ bracketed_email oe) in
-    let second : trimmed_contact (cut rest) ≡ Closed (trim (32 ∷ name_part on)) (trim oe) [] = ap trimmed_contact (cut_second on oe (name_opening on w.names.1) w.emails.1.no_closing) in
-    rw (cut_first nn on ne oe (name_opening nn w.names.0) w.emails.0.no_closing, trim-name_part nn w.names.0, ← w.emails.0.trimmed)
-    (rw (with_email both n t (unwrap_or nn []) ne rest w.some_new, agrees (unwrap_or nn []) ne rest _ second (λ e. cc), both-closed n t (unwrap_or nn []) ne (trim (32 ∷ name_part on)) (trim oe) [])
-    (rw (non_empty-name nn w.names.0, trim-blank_start (name_part on), trim-name_part on w.names.1, non_empty-name on w.names.1, ← w.emails.1.trimmed) refl))
+    grind (
+      arith,
+      agrees,
+      cut_second,
+      name_opening,
+      cut_first,
+      trim-name_part,
+      with_email,
+      both-closed,
+      non_empty-name,
+      trim-blank_start,
+    )
 
 -- lenient parsing is such a reader
 lenient : (n : ℕ) (t : Text) → Agrees n t (λ name email rest. two_contacts n t name email (trimmed_contact (cut rest)))
@@ -135,21 +128,18 @@ by_body reads n e w a =
 
 -- lenient parsing gives the entry
 pub reading-canonical_line : (n : ℕ) (e : Mapping) → IsWritable e → is_accepted e ≡ true → reading n (32 ∷ body e) ≡ Some (Ok e)
-reading-canonical_line n e w a =
-    by_body line_reading n e w a ∙ ap (λ r. Some r) (says _ n (body e) e.new_name e.new_email e.old_name e.old_email (lenient n (body e)) w a)
+reading-canonical_line n e w a = grind (arith, by_body, says, lenient)
 
 -- strict parsing gives the entry, too
 pub strict_reading-canonical_line : (n : ℕ) (e : Mapping) → IsWritable e → is_accepted e ≡ true → strict_reading n (32 ∷ body e) ≡ Some (Ok e)
-strict_reading-canonical_line n e w a =
-    by_body strict_line_reading n e w a ∙ ap (λ r. Some r) (says _ n (body e) e.new_name e.new_email e.old_name e.old_email (strict n (body e)) w a)
+strict_reading-canonical_line n e w a = grind (arith, by_body, says, strict)
 
 -- a reader that gives the entry of each line gives the entries of the text
 module _ (read : ℕ → Text → Option Reading) (each : (n : ℕ) (e : Mapping) → IsWritable e → is_accepted e ≡ true → read n (32 ∷ body e) ≡ Some (Ok e)) where
   from_text : (n : ℕ) (es : List Mapping) → AllByRecursion IsWritable es → AllByRecursion (λ e. is_accepted e ≡ true) es → readings_from read n (pieces (canonical_text es)) ≡ map Ok es
   unfolding readings_from pieces
   from_text n [] w a = refl
-  from_text n (e ∷ es) w a = ap (λ s. readings_from read n (pieces s)) (canonical_line-then e (canonical_text es))
-      ∙ rw (pieces-line (32 ∷ body e) (canonical_text es) (one_line e w.0), each n e w.0 a.0) (ap (λ rs. Ok e ∷ rs) (from_text (n + 1) es w.1 a.1))
+  from_text n (e ∷ es) w a = grind (arith, from_text (n + 1) es w.1 a.1, canonical_line-then, pieces-line, one_line)
 
 mappings_in-map : (es : List Mapping) → mappings_in (map Ok es) ≡ es
 unfolding mappings_in

@@ -1,20 +1,20 @@
 -- What answers depend on, what appended entries change, and the entries that make all answers the one that is wanted.
-use Rattle.std.proofs.Common.{⊎_elim, ◌≡◌, Bool, true, false, List, [], ◌∷◌, Option, Some, None, if◌then◌else◌, unwrap_or, option_map, refl, sym, ap, ◌∙◌, rules, ◌≢◌, ◌⊎◌, inl, inr, cond, filter, filter_map, true≢false, ◌&&◌, ◌||◌, ◌++◌, is_none, append-nil, is_some, Greater, bytes_eq, Bor, not, append_assoc, subst, arith, map, IsSome}
+use Rattle.std.proofs.Common.{⊎_elim, ◌≡◌, Bool, true, false, List, [], ◌∷◌, Option, Some, None, if◌then◌else◌, unwrap_or, option_map, refl, sym, ap, ◌∙◌, rules, ◌≢◌, ◌⊎◌, inl, inr, cond, filter, filter_map, true≢false, ◌&&◌, ◌||◌, ◌++◌, is_none, append-nil, is_some, bytes_eq, Bor, not, append_assoc, subst, arith, map, IsSome}
 use Rattle.std.specs.Option.{option_or, option_copied}
 use Rattle.mailmap_entries.specs.Entries.{Mapping, mapping}
 use Rattle.mailmap_entries.specs.Folding.{Text, folded, text_cmp}
-use Rattle.mailmap_entries.specs.Semantics.{Fields, first, given_fields, last, last_fields, new_fields, no_fields, of_email, of_key, spelling, Key, accepted, is_accepted, key, key_cmp, last_given}
+use Rattle.mailmap_entries.specs.Semantics.{Fields, first, given_fields, last, last_fields, new_fields, no_fields, of_email, of_key, spelling, Key, accepted, is_accepted, key, key_cmp}
 use Rattle.mailmap_entries.proofs.Building.{same_text, same_key}
 use Rattle.mailmap_entries.proofs.Reorder.{by_email, of_name}
 use Rattle.mailmap_contacts.specs.Contacts.{Contact, answer_to, same_contact}
 use Rattle.std.specs.List.{AllByRecursion, list_all, flat_map, list_any}
 use Rattle.std.specs.Ordering.{eq_by_cmp}
-use Rattle.mailmap_entries.proofs.Parts.{all_apply, all_last, all_weaker, last_of_one, all_append, is_some-option_map}
+use Rattle.mailmap_entries.proofs.Parts.{all_apply, all_last, all_weaker, last_of_one, all_append}
 use Rattle.mailmap_suggestions.specs.GroupEntries.{HasNoEmptyName}
 use Rattle.mailmap_contacts.proofs.Steps.{all_filtered, all_unfiltered}
 use Rattle.mailmap_entries.proofs.Alike.{first_parts, given_parts, last_parts, picked-append}
-use Rattle.mailmap_suggestions.specs.Changes.{fields_to, AreChangesBy, IsPlain, after, are_enough, given_in}
-use Rattle.mailmap_suggestions.specs.Forms.{Histories, git_answer_to, is_answered, own_key, plus, replaced, alike, are_answered, distinct, entries_for_email, entries_to, has_own_entry, is_short_enough, long_form, name_unless_empty, named_entries, named_form, of_old_email, plain_entries, short_form}
+use Rattle.mailmap_suggestions.specs.Private.{fields_to, AreChangesBy, IsPlain, after, are_enough, given_in}
+use Rattle.mailmap_suggestions.specs.Forms.{Histories, IsAnswered, Stays, git_answer_to, is_answered, own_key, plus, alike, are_answered, distinct, entries_for_email, entries_to, has_own_entry, is_short_enough, long_form, name_unless_empty, named_entries, named_form, of_old_email, plain_entries, short_form}
 use Rattle.mailmap_entries.proofs.Joined.{never, filter_none}
 use Rattle.std.proofs.lemmas.Bool.{or_right, false_from_ne_true, and_parts}
 use Rattle.std.specs.BTreeMap.{is_at}
@@ -22,7 +22,6 @@ use Rattle.std.specs.BTreeSet.{contains}
 use Rattle.std.proofs.lemmas.Map.Text.{is_eq-slice_cmp}
 use Rattle.mailmap_contacts.specs.Answers.{folded_cmp, tally_of}
 use Rattle.contact_counter.specs.declared.tallies.Tally.{Tally as TheTally}
-use Rattle.mailmap_contacts.specs.Folded.{folded_text}
 use Rattle.mailmap_contacts.specs.declared.folded.Folded.{Folded}
 use Rattle.mailmap_suggestions.specs.declared.changes.Changes.{Changes}
 use Rattle.mailmap_suggestions.proofs.Distinct.{equal_bytes, all_among, all_joined, all_of, at, each, in_filter, kept_part, same_bytes}
@@ -62,18 +61,11 @@ no_fields_for h c none = λ i. unwrap_or (no_own h c none i) (no_given h (folded
 abbrev pub made : Contact → Fields → Option Text → Contact
 made c f kept = record { name = unwrap_or f.name c.name; email = unwrap_or f.email (unwrap_or kept c.email) }
 
-pub git_is : (h : List Mapping) (c : Contact) → git_answer_to h c ≡ replaced (fields h c) c
+pub git_is : (h : List Mapping) (c : Contact) → git_answer_to h c ≡ made c (fields h c) None
 git_is h c = search rules
 
 pub answer_is : (h : List Mapping) (c : Contact) → answer_to h c ≡ made c (fields h c) (spelled h c)
 answer_is h c = search (rules, no_fields_for, same_text)
-
--- answers with the same fields and spelling are the same
-pub same_answer : (h g : List Mapping) (c : Contact) → fields h c ≡ fields g c → spelled h c ≡ spelled g c → answer_to h c ≡ answer_to g c
-same_answer h g c f s = answer_is h c ∙ (λ i. made c (f i) (s i)) ∙ sym (answer_is g c)
-
-pub same_git_answer : (h g : List Mapping) (c : Contact) → fields h c ≡ fields g c → git_answer_to h c ≡ git_answer_to g c
-same_git_answer h g c f = git_is h c ∙ ap (λ x. replaced x c) f ∙ sym (git_is g c)
 
 -- ==== names and emails of answers that are empty
 
@@ -168,83 +160,26 @@ pub record SameParts (c : Contact) (h g : List Mapping) : Type 0 where
 
 -- the answers depend only on the appended entries that affect them
 module _ (h : List Mapping) (c : Contact) (xs : List Mapping) where
-  abbrev pub affecting : List Mapping
-  affecting = filter (affects h c) xs
-
-  only_email : spelled h c ≡ None → SameParts c (h ++ affecting) (h ++ xs)
+  only_email : spelled h c ≡ None → SameParts c (h ++ xs) (h ++ filter (affects h c) xs)
   only_email none = search (rules, picked-append, kept)
 
-  only_keys : (s : Text) → spelled h c ≡ Some s → SameParts c (h ++ affecting) (h ++ xs)
+  only_keys : (s : Text) → spelled h c ≡ Some s → SameParts c (h ++ xs) (h ++ filter (affects h c) xs)
   only_keys s some = search (rules, spelling_joined, kept_of_key, last_joined, given_joined)
 
-  pub only_affecting : SameParts c (h ++ affecting) (h ++ xs)
+  only_affecting : SameParts c (h ++ xs) (h ++ filter (affects h c) xs)
   only_affecting = search (rules, only_email, only_keys)
 
--- entries that don't affect the answers don't change them
-pub parts_stay : (h : List Mapping) (c : Contact) (xs : List Mapping) → filter (affects h c) xs ≡ [] → SameParts c (h ++ xs) h
-parts_stay h c xs none =
-    let p = only_affecting h c xs in
-    let e : h ++ filter (affects h c) xs ≡ h = ap (λ l. h ++ l) none ∙ append-nil h in
-    record {
-      fields_are = sym p.fields_are ∙ ap (λ g. fields g c) e;
-      spelled_is = sym p.spelled_is ∙ ap (λ g. spelled g c) e;
-    }
+  -- entries that don't affect the answers don't change them
+  pub parts_stay : filter (affects h c) xs ≡ [] → SameParts c (h ++ xs) h
+  parts_stay none = subst (SameParts c (h ++ xs)) (ap (λ l. h ++ l) none ∙ append-nil h) only_affecting
 
 pub parts_answer : (c : Contact) (h g : List Mapping) → SameParts c h g → (answer_to h c ≡ answer_to g c) × (git_answer_to h c ≡ git_answer_to g c)
-parts_answer c h g p = (same_answer h g c p.fields_are p.spelled_is, same_git_answer h g c p.fields_are)
-
--- answered as before
-abbrev pub Stays : List Mapping → List Mapping → Contact → Type 0
-Stays h added c = (answer_to (h ++ added) c ≡ answer_to h c) × (git_answer_to (h ++ added) c ≡ git_answer_to h c)
+parts_answer c h g p = (
+  answer_is h c ∙ (λ i. made c (p.fields_are i) (p.spelled_is i)) ∙ sym (answer_is g c),
+  git_is h c ∙ ap (λ f. made c f None) p.fields_are ∙ sym (git_is g c),
+)
 
 -- ==== answers after appended entries, by what these change for the contact's old email
-
--- fields that are given later, over those that are given before
-abbrev pub both_given : Fields → Fields → Fields
-both_given later before = record { name = option_or later.name before.name; email = option_or later.email before.email }
-
-none_out : {X : Type 0} (o : Option X) → is_some o ≡ false → o ≡ None
-none_out o e = grind arith
-
-module _ (h added : List Mapping) (c : Contact) where
-  abbrev before : Fields
-  before = given_fields h (folded c.email)
-
-  abbrev later : Fields
-  later = given_fields added (folded c.email)
-
-  fields_joined : fields (h ++ added) c ≡ unwrap_or (option_or (own_fields added c) (own_fields h c)) (both_given later before)
-  fields_joined = λ i. unwrap_or (last_joined h added (own_key c) i) (given_joined h added (folded c.email) i)
-
-  spelled_joined : spelled (h ++ added) c ≡ option_or (spelled h c) (spelled added c)
-  spelled_joined = spelling_joined h added (folded c.email)
-
-  -- the last entry of a contact's own decides
-  pub own_after : (f : Fields) → own_fields added c ≡ Some f → fields (h ++ added) c ≡ f
-  own_after f own = fields_joined ∙ ap (λ o. unwrap_or (option_or o (own_fields h c)) (both_given later before)) own
-
-  spelled_still : is_some (own_fields h c) ≡ true → spelled (h ++ added) c ≡ spelled h c
-  spelled_still own = search (rules, no_own, spelled_joined)
-
-  -- an entry of its own before, and none that is appended
-  pub answers_stay : own_fields added c ≡ None → is_some (own_fields h c) ≡ true → (answer_to (h ++ added) c ≡ answer_to h c) × (git_answer_to (h ++ added) c ≡ git_answer_to h c)
-  answers_stay none own = search (rules, fields_joined, spelled_still)
-
-  module _ (none : own_fields added c ≡ None) (unowned : is_some (own_fields h c) ≡ false) where
-    fields_given : fields (h ++ added) c ≡ both_given later before
-    fields_given = fields_joined ∙ (λ i. unwrap_or (option_or (none i) (none_out (own_fields h c) unowned i)) (both_given later before))
-
-    pub git_given : git_answer_to (h ++ added) c ≡ replaced later (git_answer_to h c)
-    git_given = search (rules, fields_given)
-
-    -- if no entry spelled the email before, the first one that is appended does
-    abbrev respelled : Contact → Contact
-    respelled a = record { name = a.name; email = unwrap_or (if is_some (spelled h c) then None else spelled added c) a.email }
-
-    pub ours_given : answer_to (h ++ added) c ≡ replaced later (respelled (answer_to h c))
-    ours_given = search (rules, answer_is, fields_given, spelled_joined, no_given)
-
--- ---- what entries change says whether a contact is answered then
 
 module _ (h : List Mapping) (to : Contact) (t : TheTally) (a : Changes) (added : List Mapping) (changed : AreChangesBy to (folded t.email.now) added a) where
   abbrev who : Contact
@@ -253,50 +188,23 @@ module _ (h : List Mapping) (to : Contact) (t : TheTally) (a : Changes) (added :
   abbrev key_of : Folded
   key_of = record { text = t.name }
 
-  own_is : (b : Bool) → contains folded_cmp a.names key_of ≡ b → own_fields added who ≡ (if b then Some (fields_to to) else None)
-  own_is b is = changed.owned key_of ∙ ap (λ b. if b then Some (fields_to to) else None) is
-
   -- this library's answer and git's
   answers_after : (answer_to (h ++ added) who ≡ after a to t (answer_to h who) (is_some (own_fields h who)) (is_some (spelled h who)))
       × (git_answer_to (h ++ added) who ≡ after a to t (git_answer_to h who) (is_some (own_fields h who)) true)
-  answers_after = by (contains folded_cmp a.names key_of) (is_some (own_fields h who)) refl refl
-    where
-      rest : Contact → Option Text → Contact
-      rest before spelling = replaced (given_in a) (record { name = before.name; email = unwrap_or spelling before.email })
-
-      by : (b o : Bool) → contains folded_cmp a.names key_of ≡ b → is_some (own_fields h who) ≡ o
-          → (answer_to (h ++ added) who ≡ (if b then replaced (fields_to to) who else (if o then answer_to h who
-          else rest (answer_to h who) (if is_some (spelled h who) then None else option_copied a.spelling))))
-          × (git_answer_to (h ++ added) who ≡ (if b then replaced (fields_to to) who else (if o then git_answer_to h who else rest (git_answer_to h who) None)))
-      by true o is has =
-          let own = own_after h added who (fields_to to) (own_is true is) in
-          (answer_is (h ++ added) who ∙ ap (λ f. made who f (spelled (h ++ added) who)) own, git_is (h ++ added) who ∙ ap (λ f. replaced f who) own)
-      by false true is has = answers_stay h added who (own_is false is) has
-      by false false is has = (
-        ours_given h added who (own_is false is) has ∙ (λ i. replaced (changed.given i)
-            (record { name = (answer_to h who).name; email = unwrap_or (if is_some (spelled h who) then None else changed.spelled i) (answer_to h who).email })),
-        git_given h added who (own_is false is) has ∙ ap (λ f. replaced f (git_answer_to h who)) changed.given,
-      )
+  answers_after = (
+    grind (arith, answer_is (h ++ added) who, answer_is h who, last_joined h added (own_key who), given_joined h added (folded who.email), spelling_joined h added (folded who.email), changed.owned key_of, changed.given, changed.spelled, no_own h who, no_given h (folded who.email)),
+    grind (arith, git_is (h ++ added) who, git_is h who, last_joined h added (own_key who), given_joined h added (folded who.email), changed.owned key_of, changed.given),
+  )
 
 pub enough_is : (h : Histories) (to : Contact) (t : TheTally) (a : Changes) (added : List Mapping) → AreChangesBy to (folded t.email.now) added a
     → are_enough a h to t ≡ is_answered (plus h added) to (tally_of t).contact
 enough_is h to t a added changed =
     λ i. same_contact (sym (answers_after h.ours to t a added changed).0 i) to && same_contact (sym (answers_after h.gits to t a added changed).1 i) to
 
--- ==== what the appended forms answer, and the entries that make all answers the one that is wanted
-
 -- ==== what the appended forms answer exactly, and what entries for one old email change
 
--- both answers to a contact are `to`
-abbrev pub Answered : List Mapping → Contact → Contact → Type 0
-Answered h to c = (answer_to h c ≡ to) × (git_answer_to h c ≡ to)
-
-pub answered_decides : (h : List Mapping) (to c : Contact) → (is_answered (alike h) to c ≡ true → Answered h to c) × (Answered h to c → is_answered (alike h) to c ≡ true)
+pub answered_decides : (h : List Mapping) (to c : Contact) → (is_answered (alike h) to c ≡ true → IsAnswered h to c) × (IsAnswered h to c → is_answered (alike h) to c ≡ true)
 answered_decides h to c = search rules
-
--- an unnamed answer keeps a name, which is empty too
-pub name_back : (to : Contact) (name : Text) → (to.name ≡ [] → name ≡ []) → unwrap_or (name_unless_empty to) name ≡ to.name
-name_back to name fits = search rules
 
 -- ---- one entry
 
@@ -315,9 +223,6 @@ over x f = record { name = option_or x.new_name f.name; email = option_or x.new_
 given_after : (h : List Mapping) (x : Mapping) (email : Text) → is_accepted x ≡ true → (email, None) ≡ key x → given_fields (h ++ x ∷ []) email ≡ over x (given_fields h email)
 given_after h x email good is = search (rules, one_of_key, given_joined)
 
-pub own_differs : (email other name : Text) → eq_by_cmp key_cmp (email, Some name) (other, None) ≡ false
-own_differs email other name = never (text_cmp email other) Greater refl
-
 -- for a contact without an own entry
 pub plain_after : (h : List Mapping) (x : Mapping) (d : Contact) → is_accepted x ≡ true → (folded d.email, None) ≡ key x → own_fields h d ≡ None → fields (h ++ x ∷ []) d ≡ over x (given_fields h (folded d.email))
 plain_after h x d good is none = search (rules, last_joined, given_after)
@@ -325,29 +230,25 @@ plain_after h x d good is none = search (rules, last_joined, given_after)
 -- ---- the forms
 
 -- with a new email, only the name depends on more
-pub with_email : (h : List Mapping) (d to : Contact) (name : Option Text) → fields h d ≡ record { name = name; email = Some to.email } → unwrap_or name d.name ≡ to.name → Answered h to d
+pub with_email : (h : List Mapping) (d to : Contact) (name : Option Text) → fields h d ≡ record { name = name; email = Some to.email } → unwrap_or name d.name ≡ to.name → IsAnswered h to d
 with_email h d to name is named = search (rules, answer_is)
 
 -- a contact without a name where `to` has none
 abbrev pub Fits : Contact → Contact → Type 0
 Fits to c = to.name ≡ [] → c.name ≡ []
 
-pub named_exact : (g : List Mapping) (to c d : Contact) → own_key d ≡ own_key c → Fits to d → Answered (g ++ named_form to c ∷ []) to d
+pub named_exact : (g : List Mapping) (to c d : Contact) → own_key d ≡ own_key c → Fits to d → IsAnswered (g ++ named_form to c ∷ []) to d
 named_exact g to c d same fits =
-    with_email (g ++ named_form to c ∷ []) d to (name_unless_empty to) (named_after g (named_form to c) d (or_right (is_some (name_unless_empty to)) true refl) same) (name_back to d.name fits)
+    with_email (g ++ named_form to c ∷ []) d to (name_unless_empty to) (named_after g (named_form to c) d (or_right (is_some (name_unless_empty to)) true refl) same) (search rules)
 
-pub plain_exact : (h : List Mapping) (to c d : Contact) → folded d.email ≡ folded c.email → own_fields h d ≡ None → (to.name ≡ [] → (answer_to h d).name ≡ []) → Answered (h ++ long_form to c ∷ []) to d
+pub plain_exact : (h : List Mapping) (to c d : Contact) → folded d.email ≡ folded c.email → own_fields h d ≡ None → (to.name ≡ [] → (answer_to h d).name ≡ []) → IsAnswered (h ++ long_form to c ∷ []) to d
 plain_exact h to c d same none unnamed = search (rules, answer_is, plain_after)
 
--- a form with an old name changes no answer of another key if its email has an entry
-pub named_stays : (g : List Mapping) (to c d : Contact) (s : Text) → spelled g d ≡ Some s → eq_by_cmp key_cmp (own_key d) (own_key c) ≡ false → Answered g to d → Answered (g ++ named_form to c ∷ []) to d
-named_stays g to c d s some other before = search (rules, parts_answer, parts_stay)
-
-pub named_step : (g : List Mapping) (to c d : Contact) (s : Text) → spelled g d ≡ Some s → Fits to d → Answered g to d → Answered (g ++ named_form to c ∷ []) to d
+pub named_step : (g : List Mapping) (to c d : Contact) (s : Text) → spelled g d ≡ Some s → Fits to d → IsAnswered g to d → IsAnswered (g ++ named_form to c ∷ []) to d
 named_step g to c d s some fits before =
-    elim (eq_by_cmp key_cmp (own_key d) (own_key c)) as (λ b. eq_by_cmp key_cmp (own_key d) (own_key c) ≡ b → Answered (g ++ named_form to c ∷ []) to d) [
+    elim (eq_by_cmp key_cmp (own_key d) (own_key c)) as (λ b. eq_by_cmp key_cmp (own_key d) (own_key c) ≡ b → IsAnswered (g ++ named_form to c ∷ []) to d) [
       | true ↦ λ same. named_exact g to c d ((same_key (own_key d) (own_key c)).0 same) fits
-      | false ↦ λ other. named_stays g to c d s some other before
+      | false ↦ λ other. search (rules, parts_answer, parts_stay)
     ] refl
 
 pub spelled_more : (g xs : List Mapping) (email s : Text) → spelling g email ≡ Some s → spelling (g ++ xs) email ≡ Some s
@@ -357,26 +258,16 @@ spelled_more g xs email s some = spelling_joined g xs email ∙ ap (λ o. option
 
 -- ---- one entry
 
-spelling_of_one : (x : Mapping) (email : Text) → is_accepted x ≡ true → email ≡ folded x.old_email → spelling (x ∷ []) email ≡ Some x.old_email
-spelling_of_one x email good is = search (rules, same_text)
-
 -- no entry has an old name
 abbrev pub HasNoName : Changes → Type 0
 HasNoName a = (q : Folded) → contains folded_cmp a.names q ≡ false
 
 pub changes_plain : (to : Contact) (email : Text) (x : Mapping) (a : Changes) → IsPlain email x → HasNoName a → given_in a ≡ new_fields x → option_copied a.spelling ≡ Some x.old_email → AreChangesBy to email (x ∷ []) a
-changes_plain to email x a plain unnamed given spelled =
-    let one : of_key (x ∷ []) (email, None) ≡ x ∷ [] = one_of_key x (email, None) plain.0 (sym plain.1) in
-    let other : (name : Text) → eq_by_cmp key_cmp (email, Some name) (key x) ≡ false =
-    λ name. ap (λ k. eq_by_cmp key_cmp (email, Some name) k) plain.1 ∙ own_differs email email name in
-    record {
-      given = (λ i. record { name = last_given (λ e. e.new_name) (one i); email = last_given (λ e. e.new_email) (one i) })
-          ∙ (λ i. record { name = last_of_one (λ e. e.new_name) x i; email = last_of_one (λ e. e.new_email) x i })
-          ∙ sym given;
-      owned = λ q. ap (λ l. option_map new_fields (last l)) (none_of_key x (email, Some (folded_text q)) plain.0 (other (folded_text q)))
-          ∙ sym (ap (λ b. if b then Some (fields_to to) else None) (unnamed q));
-      spelled = spelling_of_one x email plain.0 (sym (ap (λ k. k.0) plain.1)) ∙ sym spelled;
-    }
+changes_plain to email x a plain unnamed given spelled = record {
+  given = search (rules, one_of_key, last_of_one);
+  owned = λ q. search (rules, none_of_key, never);
+  spelled = search (rules, same_text);
+}
 
 -- ---- one more entry with an old name
 
@@ -394,17 +285,7 @@ module _ (to c : Contact) where
   owned_same added name is = search (rules, last_joined, one_of_key, good)
 
   owned_other : (added : List Mapping) (name : Text) → bytes_eq (folded c.name) name ≡ false → last_fields (added ++ form ∷ []) (folded c.email, Some name) ≡ last_fields added (folded c.email, Some name)
-  owned_other added name other =
-      let k : Key = (folded c.email, Some name) in
-      let out : eq_by_cmp key_cmp k (key form) ≡ false = false_from_ne_true (eq_by_cmp key_cmp k (key form))
-      (λ e. let same : Some name ≡ Some (folded c.name) = ap (λ k. k.1) ((same_key k (key form)).0 e) in
-      true≢false (sym (equal_bytes (folded c.name) name (ap (λ o. text_in o) (sym same))) ∙ other)) in
-      last_joined added (form ∷ []) k
-      ∙ ap (λ l. option_or (option_map new_fields (last l)) (last_fields added k)) (none_of_key form k good out)
-    where
-      text_in : Option Text → Text
-      text_in None = []
-      text_in (Some t) = t
+  owned_other added name other = search (rules, last_joined, none_of_key, good, is_eq-slice_cmp, never)
 
   -- with the contact's old name, and its email if nothing was appended before
   pub changes_named : (added : List Mapping) (a b : Changes) (k : Folded) → k.text.now ≡ c.name → AreChangesBy to (folded c.email) added a
@@ -456,36 +337,33 @@ module _ (P : Mapping → Type 0) (to : Contact) where
 abbrev pub IsWanting : List Mapping → Contact → Contact → Type 0
 IsWanting h to c = to.name ≡ [] → (answer_to h c).name ≡ []
 
-pub own_none : (h : List Mapping) (c : Contact) → own_fields h c ≡ None → not (has_own_entry (alike h) c) ≡ true
-own_none h c none = ap (λ o. not (is_some o || is_some o)) none
-
 none_own : (h : List Mapping) (c : Contact) → not (has_own_entry (alike h) c) ≡ true → own_fields h c ≡ None
 none_own h c out = search rules
 
-moved : (to : Contact) (g xs ys : List Mapping) (d : Contact) → Answered ((g ++ xs) ++ ys) to d → Answered (g ++ (xs ++ ys)) to d
-moved to g xs ys d = subst (λ l. Answered l to d) (append_assoc g xs ys)
+moved : (to : Contact) (g xs ys : List Mapping) (d : Contact) → IsAnswered ((g ++ xs) ++ ys) to d → IsAnswered (g ++ (xs ++ ys)) to d
+moved to g xs ys d = subst (λ l. IsAnswered l to d) (append_assoc g xs ys)
 
 module _ (to : Contact) where
-  named_keep : (cs : List Contact) (g : List Mapping) (d : Contact) (s : Text) → spelled g d ≡ Some s → Fits to d → Answered g to d → Answered (g ++ named_entries (alike g) to cs) to d
-  named_keep [] g d s some fits before = subst (λ l. Answered l to d) (sym (append-nil g)) before
+  named_keep : (cs : List Contact) (g : List Mapping) (d : Contact) (s : Text) → spelled g d ≡ Some s → Fits to d → IsAnswered g to d → IsAnswered (g ++ named_entries (alike g) to cs) to d
+  named_keep [] g d s some fits before = subst (λ l. IsAnswered l to d) (sym (append-nil g)) before
   named_keep (c ∷ cs) g d s some fits before =
-      elim (is_answered (alike g) to c) as (λ b. Answered (g ++ (if b then named_entries (alike g) to cs else named_form to c ∷ named_entries (alike (g ++ named_form to c ∷ [])) to cs)) to d) [
+      elim (is_answered (alike g) to c) as (λ b. IsAnswered (g ++ (if b then named_entries (alike g) to cs else named_form to c ∷ named_entries (alike (g ++ named_form to c ∷ [])) to cs)) to d) [
         | true ↦ named_keep cs g d s some fits before
         | false ↦ moved to g (named_form to c ∷ []) (named_entries (alike (g ++ named_form to c ∷ [])) to cs) d
             (named_keep cs (g ++ named_form to c ∷ []) d s (spelled_more g (named_form to c ∷ []) (folded d.email) s some) fits (named_step g to c d s some fits before))
       ]
 
-  named_none : (g : List Mapping) (cs : List Contact) → AllByRecursion (Answered g to) cs → named_entries (alike g) to cs ≡ []
+  named_none : (g : List Mapping) (cs : List Contact) → AllByRecursion (IsAnswered g to) cs → named_entries (alike g) to cs ≡ []
   named_none g [] all = refl
   named_none g (c ∷ cs) all = search (rules, named_none g cs all.1)
 
   module _ (email : Text) where
-    named_all : (cs : List Contact) (g : List Mapping) (s : Text) → spelling g email ≡ Some s → AllByRecursion (λ c. (folded c.email ≡ email) × Fits to c) cs → AllByRecursion (Answered (g ++ named_entries (alike g) to cs) to) cs
+    named_all : (cs : List Contact) (g : List Mapping) (s : Text) → spelling g email ≡ Some s → AllByRecursion (λ c. (folded c.email ≡ email) × Fits to c) cs → AllByRecursion (IsAnswered (g ++ named_entries (alike g) to cs) to) cs
     named_all [] g s some all = tt
     named_all (c ∷ cs) g s some all =
         let of_c : spelled g c ≡ Some s = ap (spelling g) all.0.0 ∙ some in
         elim (is_answered (alike g) to c) as (λ b. is_answered (alike g) to c ≡ b
-        → AllByRecursion (Answered (g ++ (if b then named_entries (alike g) to cs else named_form to c ∷ named_entries (alike (g ++ named_form to c ∷ [])) to cs)) to) (c ∷ cs)) [
+        → AllByRecursion (IsAnswered (g ++ (if b then named_entries (alike g) to cs else named_form to c ∷ named_entries (alike (g ++ named_form to c ∷ [])) to cs)) to) (c ∷ cs)) [
           | true ↦ λ yes. (named_keep cs g c s of_c all.0.1 ((answered_decides g to c).0 yes), named_all cs g s some all.1)
           | false ↦ λ _.
               let more = g ++ named_form to c ∷ [] in
@@ -497,17 +375,12 @@ module _ (to : Contact) where
 
     -- what holds of the forms for contacts that aren't answered yet
     named_needed : (P : Mapping → Type 0) (cs : List Contact) (g : List Mapping) (s : Text) → spelling g email ≡ Some s
-        → AllByRecursion (λ c. (folded c.email ≡ email) × Fits to c × ((Answered g to c → ⊥) → P (named_form to c))) cs → AllByRecursion P (named_entries (alike g) to cs)
+        → AllByRecursion (λ c. (folded c.email ≡ email) × Fits to c × ((IsAnswered g to c → ⊥) → P (named_form to c))) cs → AllByRecursion P (named_entries (alike g) to cs)
     named_needed P [] g s some all = tt
     named_needed P (c ∷ cs) g s some all =
-        elim (is_answered (alike g) to c) as (λ b. is_answered (alike g) to c ≡ b → AllByRecursion P (if b then named_entries (alike g) to cs else named_form to c ∷ named_entries (alike (g ++ named_form to c ∷ [])) to cs)) [
-          | true ↦ λ _. named_needed P cs g s some all.1
-          | false ↦ λ other. (
-            all.0.2 (λ answered. true≢false (sym ((answered_decides g to c).1 answered) ∙ other)),
-            named_needed P cs (g ++ named_form to c ∷ []) s (spelled_more g (named_form to c ∷ []) email s some)
-                (all_weaker cs (λ d p. (p.0, p.1, λ out. p.2 (λ answered. out (named_step g to c d s (ap (spelling g) p.0 ∙ some) p.1 answered)))) all.1),
-          )
-        ] refl
+        let rest = named_needed P cs (g ++ named_form to c ∷ []) s (spelled_more g (named_form to c ∷ []) email s some)
+        (all_weaker cs (λ d p. (p.0, p.1, λ out. p.2 (λ answered. out (named_step g to c d s (ap (spelling g) p.0 ∙ some) p.1 answered)))) all.1) in
+        search (rules, named_needed P cs g s some all.1, answered_decides g to c, all.0.2, true≢false, rest)
 
 module _ (h : List Mapping) (named : AllByRecursion HasNoEmptyName h) (to : Contact) (email : Text) (cs : List Contact) (all : AllByRecursion (λ c. (folded c.email ≡ email) × IsWanting h to c) cs) where
   abbrev own : Contact → Bool
@@ -516,46 +389,46 @@ module _ (h : List Mapping) (named : AllByRecursion HasNoEmptyName h) (to : Cont
   abbrev g : List Mapping
   g = h ++ plain_entries (alike h) to (filter own cs)
 
-  plain_all : (ps : List Contact) → AllByRecursion (λ c. (folded c.email ≡ email) × IsWanting h to c × (own_fields h c ≡ None)) ps → AllByRecursion (Answered (h ++ plain_entries (alike h) to ps) to) ps
+  plain_all : (ps : List Contact) → AllByRecursion (λ c. (folded c.email ≡ email) × IsWanting h to c × (own_fields h c ≡ None)) ps → AllByRecursion (IsAnswered (h ++ plain_entries (alike h) to ps) to) ps
   plain_all [] all = tt
   plain_all (c ∷ cs) all =
-      elim (are_answered (alike h) to (c ∷ cs)) as (λ b. are_answered (alike h) to (c ∷ cs) ≡ b → AllByRecursion (Answered (h ++ (if b then [] else (if is_short_enough (alike h) to c cs then short_form to else long_form to c) ∷ [])) to) (c ∷ cs)) [
-        | true ↦ λ yes. subst (λ l. AllByRecursion (Answered l to) (c ∷ cs)) (sym (append-nil h)) (all_true (is_answered (alike h) to) (Answered h to) (λ d. (answered_decides h to d).0) (c ∷ cs) yes)
-        | false ↦ λ _. elim (is_short_enough (alike h) to c cs) as (λ b. is_short_enough (alike h) to c cs ≡ b → AllByRecursion (Answered (h ++ (if b then short_form to else long_form to c) ∷ []) to) (c ∷ cs)) [
-          | true ↦ λ enough. all_true (is_answered (alike (h ++ short_form to ∷ [])) to) (Answered (h ++ short_form to ∷ []) to) (λ d. (answered_decides (h ++ short_form to ∷ []) to d).0) (c ∷ cs)
+      elim (are_answered (alike h) to (c ∷ cs)) as (λ b. are_answered (alike h) to (c ∷ cs) ≡ b → AllByRecursion (IsAnswered (h ++ (if b then [] else (if is_short_enough (alike h) to c cs then short_form to else long_form to c) ∷ [])) to) (c ∷ cs)) [
+        | true ↦ λ yes. subst (λ l. AllByRecursion (IsAnswered l to) (c ∷ cs)) (sym (append-nil h)) (all_true (is_answered (alike h) to) (IsAnswered h to) (λ d. (answered_decides h to d).0) (c ∷ cs) yes)
+        | false ↦ λ _. elim (is_short_enough (alike h) to c cs) as (λ b. is_short_enough (alike h) to c cs ≡ b → AllByRecursion (IsAnswered (h ++ (if b then short_form to else long_form to c) ∷ []) to) (c ∷ cs)) [
+          | true ↦ λ enough. all_true (is_answered (alike (h ++ short_form to ∷ [])) to) (IsAnswered (h ++ short_form to ∷ []) to) (λ d. (answered_decides (h ++ short_form to ∷ []) to d).0) (c ∷ cs)
               (and_parts (is_some (name_unless_empty to) && bytes_eq (folded to.email) (folded c.email)) (are_answered (plus (alike h) (short_form to ∷ [])) to (c ∷ cs)) enough).1
           | false ↦ λ _. all_weaker (c ∷ cs) (λ d p. plain_exact h to c d (p.0 ∙ sym (all.0).0) p.2 p.1) all
         ] refl
       ] refl
 
-  unowned_answered : AllByRecursion (λ c. own_fields h c ≡ None → Answered g to c) cs
-  unowned_answered = all_weaker cs (λ c f none. f (own_none h c none)) (all_unfiltered own (Answered g to) cs (plain_all (filter own cs)
+  unowned_answered : AllByRecursion (λ c. own_fields h c ≡ None → IsAnswered g to c) cs
+  unowned_answered = all_weaker cs (λ c f none. f (ap (λ o. not (is_some o || is_some o)) none)) (all_unfiltered own (IsAnswered g to) cs (plain_all (filter own cs)
       (all_filtered own (λ c. (folded c.email ≡ email) × IsWanting h to c) (λ c. (folded c.email ≡ email) × IsWanting h to c × (own_fields h c ≡ None)) (λ c p out. (p.0, p.1, none_own h c out)) cs all)))
 
   fits : (c : Contact) → IsWanting h to c → Fits to c
   fits c wanting e = unnamed_contact h c named (wanting e)
 
   -- if no entry spells the email yet, none is a contact's own
-  settled : ((s : Text) × (spelling g email ≡ Some s)) ⊎ AllByRecursion (Answered g to) cs
+  settled : ((s : Text) × (spelling g email ≡ Some s)) ⊎ AllByRecursion (IsAnswered g to) cs
   settled = by (spelling h email) refl
     where
-      by : (o : Option Text) → spelling h email ≡ o → ((s : Text) × (spelling g email ≡ Some s)) ⊎ AllByRecursion (Answered g to) cs
+      by : (o : Option Text) → spelling h email ≡ o → ((s : Text) × (spelling g email ≡ Some s)) ⊎ AllByRecursion (IsAnswered g to) cs
       by (Some s) some = inl (s, spelled_more h (plain_entries (alike h) to (filter own cs)) email s some)
-      by None none = inr (all_apply (λ c. (folded c.email ≡ email) × IsWanting h to c) (λ c. own_fields h c ≡ None → Answered g to c) (Answered g to)
+      by None none = inr (all_apply (λ c. (folded c.email ≡ email) × IsWanting h to c) (λ c. own_fields h c ≡ None → IsAnswered g to c) (IsAnswered g to)
           (λ c p f. f (no_own h c (ap (spelling h) p.0 ∙ none))) cs all unowned_answered)
 
-  pub email_all : AllByRecursion (Answered (h ++ entries_for_email (alike h) to cs) to) cs
+  pub email_all : AllByRecursion (IsAnswered (h ++ entries_for_email (alike h) to cs) to) cs
   email_all = all_weaker cs (λ d. moved to h (plain_entries (alike h) to (filter own cs)) (named_entries (alike g) to cs) d) (⊎_elim
       (λ known. named_all to email cs g known.0 known.1 (all_weaker cs (λ c p. (p.0, fits c p.1)) all))
-      (λ answered. subst (λ l. AllByRecursion (Answered l to) cs) (sym (append-nil g) ∙ ap (λ l. g ++ l) (sym (named_none to g cs answered))) answered) settled)
+      (λ answered. subst (λ l. AllByRecursion (IsAnswered l to) cs) (sym (append-nil g) ∙ ap (λ l. g ++ l) (sym (named_none to g cs answered))) answered) settled)
 
   -- a form with an old name is only for a contact with entries of its own
   pub email_needed : (P : Mapping → Type 0) → AllByRecursion (OfPlain P to) cs → AllByRecursion (λ c. own_fields h c ≢ None → P (named_form to c)) cs → AllByRecursion P (entries_for_email (alike h) to cs)
   email_needed P plain owned = all_append P (plain_entries (alike h) to (filter own cs)) (named_entries (alike g) to cs)
       (each_plain P to (alike h) (filter own cs) (all_filtered own (OfPlain P to) (OfPlain P to) (λ c p _. p) cs plain)) (⊎_elim
-      (λ known. named_needed to email P cs g known.0 known.1 (all_apply (λ c. (folded c.email ≡ email) × IsWanting h to c) (λ c. (Answered g to c → ⊥) → P (named_form to c))
-      (λ c. (folded c.email ≡ email) × Fits to c × ((Answered g to c → ⊥) → P (named_form to c))) (λ c p f. (p.0, fits c p.1, f)) cs all
-      (all_apply (λ c. own_fields h c ≡ None → Answered g to c) (λ c. own_fields h c ≢ None → P (named_form to c)) (λ c. (Answered g to c → ⊥) → P (named_form to c))
+      (λ known. named_needed to email P cs g known.0 known.1 (all_apply (λ c. (folded c.email ≡ email) × IsWanting h to c) (λ c. (IsAnswered g to c → ⊥) → P (named_form to c))
+      (λ c. (folded c.email ≡ email) × Fits to c × ((IsAnswered g to c → ⊥) → P (named_form to c))) (λ c p f. (p.0, fits c p.1, f)) cs all
+      (all_apply (λ c. own_fields h c ≡ None → IsAnswered g to c) (λ c. own_fields h c ≢ None → P (named_form to c)) (λ c. (IsAnswered g to c → ⊥) → P (named_form to c))
       (λ c f p out. p (λ none. out (f none))) cs unowned_answered owned)))
       (λ answered. subst (AllByRecursion P) (sym (named_none to g cs answered)) tt) settled)
 
@@ -566,19 +439,12 @@ pub record Linked (h : List Mapping) (b c : Contact) : Type 0 where
   pub emails : folded b.email ≡ folded c.email
   pub names : (folded b.name ≡ folded c.name) ⊎ ((own_fields h b ≡ None) × (own_fields h c ≡ None))
 
-linked_fields : (h : List Mapping) (b c : Contact) → Linked h b c → fields h b ≡ fields h c
-linked_fields h b c l = search rules
-
 -- their answers have the same email, ASCII case aside
 pub linked_email : (h : List Mapping) (b c : Contact) → Linked h b c → folded (answer_to h b).email ≡ folded (answer_to h c).email
-linked_email h b c l = ap (λ a. folded a.email) (answer_is h b)
-    ∙ (λ i. folded (unwrap_or (linked_fields h b c l i).email (unwrap_or (spelling h (l.emails i)) b.email)))
-    ∙ by (fields h c).email (spelled h c) ∙ ap (λ a. folded a.email) (sym (answer_is h c))
-  where
-    by : (e s : Option Text) → folded (unwrap_or e (unwrap_or s b.email)) ≡ folded (unwrap_or e (unwrap_or s c.email))
-    by None None = l.emails
-    by None (Some s) = refl
-    by (Some e) s = refl
+linked_email h b c l =
+    let same : fields h b ≡ fields h c = search rules in
+    let parts : folded (made b (fields h c) (spelled h b)).email ≡ folded (made c (fields h c) (spelled h c)).email = search rules in
+    ap (λ a. folded a.email) (answer_is h b ∙ ap (λ f. made b f (spelled h b)) same) ∙ parts ∙ ap (λ a. folded a.email) (sym (answer_is h c))
 
 -- with the same key they have the same name, too
 pub linked_name : (h : List Mapping) (b c : Contact) → own_key b ≡ own_key c → folded (answer_to h b).name ≡ folded (answer_to h c).name
@@ -612,31 +478,28 @@ module _ (h : List Mapping) (In : Contact → Type 0) where
 
 -- ==== the entries for any contacts make all their answers the one that is wanted
 
--- entries of which the same ones affect an answer
-pub answered_by_same : (h xs ys : List Mapping) (to c : Contact) → filter (affects h c) xs ≡ filter (affects h c) ys → Answered (h ++ xs) to c → Answered (h ++ ys) to c
-answered_by_same h xs ys to c same before =
-    let x = parts_answer c (h ++ filter (affects h c) xs) (h ++ xs) (only_affecting h c xs) in
-    let y = parts_answer c (h ++ filter (affects h c) ys) (h ++ ys) (only_affecting h c ys) in (
-      sym y.0 ∙ ap (λ l. answer_to (h ++ l) c) (sym same) ∙ x.0 ∙ before.0,
-      sym y.1 ∙ ap (λ l. git_answer_to (h ++ l) c) (sym same) ∙ x.1 ∙ before.1,
-    )
-
 -- parts for texts, of which only that for one text can affect a contact
 module _ (h : List Mapping) (c : Contact) (part : Text → List Mapping) (own : Text) (alone : (t : Text) → AllByRecursion (λ x. affects h c x ≡ true → t ≡ own) (part t)) where
   pub unaffected_part : (t : Text) → t ≢ own → filter (affects h c) (part t) ≡ []
   unaffected_part t other = filter_none (affects h c) (part t) (all_weaker (part t) (λ x is. false_from_ne_true (affects h c x) (λ affected. other (is affected))) (alone t))
 
-  pub answered_by_own : (to : Contact) (texts : List Text) → list_any (bytes_eq own) texts ≡ true → Answered (h ++ part own) to c → Answered (h ++ flat_map part (distinct texts)) to c
-  answered_by_own to texts among = answered_by_same h (part own) (flat_map part (distinct texts)) to c
-      (sym (kept_part (affects h c) part own texts among (λ t other. unaffected_part t (λ e. true≢false (sym (equal_bytes own t (sym e)) ∙ other)))))
+  pub answered_by_own : (to : Contact) (texts : List Text) → list_any (bytes_eq own) texts ≡ true → IsAnswered (h ++ part own) to c → IsAnswered (h ++ flat_map part (distinct texts)) to c
+  answered_by_own to texts among before =
+      let all = flat_map part (distinct texts) in
+      let same = kept_part (affects h c) part own texts among (λ t other. unaffected_part t (λ e. true≢false (sym (equal_bytes own t (sym e)) ∙ other))) in
+      let x = parts_answer c (h ++ part own) (h ++ filter (affects h c) (part own)) (only_affecting h c (part own)) in
+      let y = parts_answer c (h ++ all) (h ++ filter (affects h c) all) (only_affecting h c all) in (
+        y.0 ∙ ap (λ l. answer_to (h ++ l) c) same ∙ sym x.0 ∙ before.0,
+        y.1 ∙ ap (λ l. git_answer_to (h ++ l) c) same ∙ sym x.1 ∙ before.1,
+      )
 
 module _ (cs : List Contact) where
   -- of a contact for an old email
   pub of_email_all : (P : Contact → Type 0) (email : Text) → AllByRecursion P cs → AllByRecursion (λ c. (folded c.email ≡ email) × P c) (of_old_email email cs)
   of_email_all P email all = all_filtered (λ c. bytes_eq email (folded c.email)) P (λ c. (folded c.email ≡ email) × P c) (λ c p same. (sym (same_bytes email (folded c.email) same), p)) cs all
 
-  pub entries_all : (h : List Mapping) → AllByRecursion HasNoEmptyName h → (to : Contact) → AllByRecursion (IsWanting h to) cs → AllByRecursion (Answered (h ++ entries_to (alike h) to cs) to) cs
-  entries_all h named to all = each (Answered (h ++ entries_to (alike h) to cs) to) cs (λ c i.
+  pub entries_all : (h : List Mapping) → AllByRecursion HasNoEmptyName h → (to : Contact) → AllByRecursion (IsWanting h to) cs → AllByRecursion (IsAnswered (h ++ entries_to (alike h) to cs) to) cs
+  entries_all h named to all = each (IsAnswered (h ++ entries_to (alike h) to cs) to) cs (λ c i.
       let part : Text → List Mapping = λ email. entries_for_email (alike h) to (of_old_email email cs) in
       let email = folded c.email in
       let ones = of_old_email email cs in
@@ -645,36 +508,19 @@ module _ (cs : List Contact) where
       (λ t. all_weaker (part t) (λ x concern affected. sym (concern.is_in).0 ∙ (affected_linked h (Of t) x c concern affected).emails)
       (email_concern h (Of t) to (of_old_email t cs) (of_email_all (IsWanting h to) t all)))
       to (map (λ c. folded c.email) cs) (at (λ c. list_any (bytes_eq (folded c.email)) (map (λ c. folded c.email) cs) ≡ true) cs (all_among (λ c. folded c.email) cs) c i)
-      (at (Answered (h ++ part email) to) ones (email_all h named to email ones (of_email_all (IsWanting h to) email all))
+      (at (IsAnswered (h ++ part email) to) ones (email_all h named to email ones (of_email_all (IsWanting h to) email all))
       c (in_filter (λ c. bytes_eq email (folded c.email)) cs c i (equal_bytes email email refl))))
 
 -- ==== what one appended entry changes, and what it doesn't
 
-unaffected : (h : List Mapping) (x : Mapping) (c : Contact) → (affects h c x ≡ true → ⊥) → Stays h (x ∷ []) c
-unaffected h x c never = parts_answer c (h ++ x ∷ []) h (parts_stay h c (x ∷ []) (ap (λ b. cond b (x ∷ []) []) (false_from_ne_true (affects h c x) never)))
-
--- an entry that affects a contact's answers has its email, and its key or no old name, or there is no entry for the email
-by_parts : (h : List Mapping) (x : Mapping) (c : Contact) → affects h c x ≡ true
-    → (own_key c ≡ key x → ⊥) → ((folded c.email, None) ≡ key x → own_fields h c ≡ None → ⊥) → (folded c.email ≡ folded x.old_email → spelled h c ≡ None → ⊥) → ⊥
-by_parts h x c is own plain first = search (rules, same_text)
-
 pub named_other : (h : List Mapping) (x : Mapping) (c : Contact) → IsSome x.old_name → (key x ≡ own_key c → ⊥) → (folded x.old_email ≡ folded c.email → IsSome (spelling h (folded c.email))) → Stays h (x ∷ []) c
-named_other h x c named other spells = unaffected h x c (λ is. by_parts h x c is (λ own. other (sym own))
-    (λ plain _. true≢false (sym named ∙ is_some-option_map folded x.old_name ∙ ap (λ k. is_some k.1) (sym plain)))
-    (λ same none. true≢false (sym (spells (sym same)) ∙ ap is_some none)))
+named_other h x c named other spells = search (rules, parts_answer, parts_stay, same_key, same_text)
 
 pub plain_other : (h : List Mapping) (x : Mapping) (c : Contact) → x.old_name ≡ None → (folded x.old_email ≡ folded c.email → IsSome (own_fields h c)) → Stays h (x ∷ []) c
-plain_other h x c unnamed owns = unaffected h x c (λ is. by_parts h x c is
-    (λ own. true≢false (ap (λ k. is_some k.1) own ∙ ap (λ o. is_some (option_map folded o)) unnamed))
-    (λ plain none. true≢false (sym (owns (ap (λ k. k.0) (sym plain))) ∙ ap is_some none))
-    (λ same none. true≢false (sym (owns (sym same)) ∙ ap is_some (no_own h c none))))
+plain_other h x c unnamed owns = search (rules, parts_answer, parts_stay, same_key, same_text, no_own)
 
-pub exact_named : (h : List Mapping) (c : Contact) (name email old_name old_email : Text) → folded old_name ≡ folded c.name → folded old_email ≡ folded c.email → Answered (h ++ mapping (Some name) (Some email) (Some old_name) old_email ∷ []) (record { name = name; email = email }) c
-exact_named h c name email old_name old_email names emails =
-    let x = mapping (Some name) (Some email) (Some old_name) old_email in
-    with_email (h ++ x ∷ []) c (record { name = name; email = email }) (Some name) (named_after h x c refl (λ i. (sym emails i, Some (sym names i)))) refl
+pub exact_named : (h : List Mapping) (c : Contact) (name email old_name old_email : Text) → folded old_name ≡ folded c.name → folded old_email ≡ folded c.email → IsAnswered (h ++ mapping (Some name) (Some email) (Some old_name) old_email ∷ []) (record { name = name; email = email }) c
+exact_named h c name email old_name old_email names emails = search (rules, answer_is, named_after)
 
-pub exact_plain : (h : List Mapping) (c : Contact) (name email old_email : Text) → own_fields h c ≡ None → folded old_email ≡ folded c.email → Answered (h ++ mapping (Some name) (Some email) None old_email ∷ []) (record { name = name; email = email }) c
-exact_plain h c name email old_email none emails =
-    let x = mapping (Some name) (Some email) None old_email in
-    with_email (h ++ x ∷ []) c (record { name = name; email = email }) (Some name) (plain_after h x c refl (λ i. (sym emails i, None)) none) refl
+pub exact_plain : (h : List Mapping) (c : Contact) (name email old_email : Text) → own_fields h c ≡ None → folded old_email ≡ folded c.email → IsAnswered (h ++ mapping (Some name) (Some email) None old_email ∷ []) (record { name = name; email = email }) c
+exact_plain h c name email old_email none emails = search (rules, answer_is, plain_after)

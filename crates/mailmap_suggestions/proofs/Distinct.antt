@@ -90,6 +90,9 @@ pub each : {X : Type 0} (P : X → Type 0) (xs : List X) → ((x : X) → x ∈ 
 each P [] f = tt
 each P (x ∷ xs) f = (f x (inl refl), each P xs (λ y i. f y (inr i)))
 
+pub each_pair : {X : Type 0} (R : X → X → Type 0) (xs : List X) → ((x y : X) → x ∈ xs → y ∈ xs → R x y) → AllByRecursion (λ x. AllByRecursion (R x) xs) xs
+each_pair R xs f = each (λ x. AllByRecursion (R x) xs) xs (λ x i. each (R x) xs (λ y j. f x y i j))
+
 pub at : {X : Type 0} (P : X → Type 0) (xs : List X) → AllByRecursion P xs → (x : X) → x ∈ xs → P x
 at P [] all x i = absurd i
 at P (y ∷ ys) all x i = ⊎_elim (λ same. subst P same all.0) (λ later. at P ys all.1 x later) i

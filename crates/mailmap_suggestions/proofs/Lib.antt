@@ -1,5 +1,4 @@
 mod Distinct
 pub mod Appended
-pub mod Grouping
 pub mod Forms
 pub mod United

@@ -1,27 +1,25 @@
 -- What suggested entries do: they unite the contacts, can be written, and are read from their text.
-use Rattle.std.proofs.Common.{◌≡◌, ◌+◌, ℕ, None, is_some, option_to_list, List, [], ◌∷◌, ◌++◌, filter, refl, sym, ◌∙◌, rules, ◌≢◌, ◌&&◌, Bool, true, false, ap, append-nil, bytes_eq, if◌then◌else◌, inl, map, not, subst, ⊎_elim, Option, Some, IfSome, unwrap_or, option_map, Ok, zero, suc, decimal, codes, append_assoc, arith}
-use Rattle.std.specs.List.{AllByRecursion, flat_map, list_any, slice_get}
+use Rattle.std.proofs.Common.{◌≡◌, ◌+◌, ℕ, None, option_to_list, List, [], ◌∷◌, ◌++◌, filter, refl, sym, ◌∙◌, rules, ◌≢◌, ◌&&◌, Bool, true, false, ap, append-nil, bytes_eq, if◌then◌else◌, inl, map, not, subst, ⊎_elim, Option, Some, IfSome, option_map, Ok, zero, suc, decimal, append_assoc, arith}
+use Rattle.std.specs.List.{AllByRecursion, flat_map, list_any}
 use Rattle.mailmap_entries.specs.Entries.{Mapping}
 use Rattle.mailmap_entries.specs.Folding.{Text, folded, text_cmp}
 use Rattle.mailmap_entries.specs.Semantics.{first, Fields, accepted, is_accepted, of_email}
 use Rattle.mailmap_entries.proofs.Parts.{filter-map, all_weaker, all_map, all_mapped, all_append}
-use Rattle.mailmap_findings.specs.Positions.{entry}
 use Rattle.mailmap_findings.proofs.Concatenated.{texts}
 use Rattle.mailmap_grammar.specs.CanonicalText.{IsWritable, IsWritableEmail, IsWritableName}
 use Rattle.mailmap_grammar.specs.Lines.{mappings_of, Reading, is_comment, line_reading, reading, reading_by, strict_line_reading, strict_reading, unless_blank, HoldsNo, ParsedContact, mappings_in, pieces, readings_from}
 use Rattle.mailmap_snapshot.proofs.WritableLines.{ContactFits, all_read, contact_fits}
-use Rattle.mailmap_redundancy.specs.Redundancy.{entries}
-use Rattle.mailmap_suggestions.specs.GroupEntries.{HasNoEmptyName, Unites, all_entries, are_alike, contacts, email_entries, email_shared, group_entries, groups, is_grouped, name_entries, name_shared, proper_answer, shared_texts, sharers, IsWritableContact}
+use Rattle.mailmap_suggestions.specs.GroupEntries.{Agree, AllAgree, HasNoEmptyName, Unites, all_entries, are_alike, contacts, email_entries, email_shared, group_entries, groups, is_grouped, name_entries, name_shared, proper_answer, shared_texts, sharers, IsWritableContact}
 use Rattle.std.proofs.lemmas.Bool.{false_from_ne_true, not-false}
 use Rattle.mailmap_entries.proofs.Joined.{filter_none}
 use Rattle.mailmap_contacts.specs.Contacts.{Contact, Tally, answer_to, answered, tallied, contact_on, contacts_from, same_contact, tally_on}
 use Rattle.mailmap_contacts.proofs.Steps.{all_filtered}
 use Rattle.mailmap_contacts.proofs.Tallied.{each_tallied, each_untallied}
 use Rattle.mailmap_suggestions.specs.Counted.{counted, by_frequency, git_answered, git_counted, other_git_answers, ranked}
-use Rattle.mailmap_suggestions.specs.Forms.{alike, distinct, entries_for_email, entries_to, git_answer_to, is_answered, long_form, name_unless_empty, named_form, of_old_email, short_form}
-use Rattle.mailmap_suggestions.proofs.Appended.{Stays, affects, empty_or, folded_empty, git_without_email, parts_answer, parts_stay, answer_is, fields, git_is, own_fields, spelled, accepted_all, fields_all, Answered, answered_decides, Concerns, IsWanting, Linked, OfPlain, affected_linked, all_true, answered_by_own, each_entry, email_needed, entries_all, entries_concern, linked_email, of_email_all, unaffected_part}
-use Rattle.mailmap_suggestions.proofs.Distinct.{◌∈◌, all_among, among_passing, at, each, equal_bytes, filter_joined, from_filter, in_filter, no_part, same_bytes, somes, all_joined, all_of}
-use Rattle.mailmap_suggestions.proofs.Grouping.{all_by_frequency, all_named, from_by_frequency, none_named}
+use Rattle.mailmap_suggestions.specs.Forms.{IsAnswered, Stays, alike, distinct, entries_for_email, entries_to, git_answer_to, is_answered, named_form, of_old_email}
+use Rattle.mailmap_suggestions.proofs.Appended.{affects, empty_or, folded_empty, git_without_email, parts_answer, parts_stay, answer_is, fields, git_is, made, own_fields, spelled, accepted_all, fields_all, answered_decides, Concerns, IsWanting, Linked, OfPlain, affected_linked, all_true, answered_by_own, each_entry, email_needed, entries_all, entries_concern, linked_email, of_email_all, unaffected_part}
+use Rattle.mailmap_suggestions.proofs.Distinct.{◌∈◌, all_among, among_passing, at, each, each_pair, equal_bytes, filter_joined, from_filter, in_filter, no_part, same_bytes, somes, all_joined, all_of}
+use Rattle.mailmap_suggestions.proofs.Forms.{Each, all_by_frequency, all_named, from_by_frequency, none_named}
 use Rattle.std.specs.Ordering.{eq_by_cmp}
 use Rattle.mailmap_grammar.specs.Trimming.{trim}
 use Rattle.mailmap_snapshot.proofs.WhiteEnds.{trim-blank_start, HoldsNo-trim, trim-nil}
@@ -45,9 +43,6 @@ lines_named buffers = writable_named (flat_map mappings_of buffers) (all_read bu
 
 -- ---- the proper answer
 
-abbrev pub Each : (Contact → Type 0) → List Tally → Type 0
-Each P ts = AllByRecursion (λ t. P t.contact) ts
-
 pub each_counted : (P : Contact → Type 0) (h : List Mapping) (g : List Tally) → AllByRecursion (λ c. P (answer_to h c)) (contacts g) → Each P (counted (alike h) g)
 each_counted P h g all = all_by_frequency (λ t. P t.contact) (tallied (map (answered h) g))
     (each_tallied P (map (answered h) g) (all_mapped (answered h) (λ u. P u.contact) g (all_map (λ u. u.contact) (λ c. P (answer_to h c)) g all)))
@@ -65,20 +60,14 @@ proper_comes h g c i =
     (λ none. at (λ _. ⊥) (contacts g) (from_counted (λ _. ⊥) h g (subst (Each (λ _. ⊥)) (sym none) tt)) c i)
     (each_counted Comes h g (each (λ c. Comes (answer_to h c)) (contacts g) (λ d j. (d, j, refl))))
 
--- and a named one if there is one
-pub proper_named : (h : List Mapping) (g : List Tally) → (proper_answer (alike h) g).name ≡ [] → AllByRecursion (λ c. (answer_to h c).name ≡ []) (contacts g)
-proper_named h g empty = from_counted (λ c. c.name ≡ []) h g (none_named (slice_get (counted (alike h) g) 0) (counted (alike h) g) empty)
-
 -- ==== the entries of all groups make the answers of each group its proper one, and change no other
 
-alike_all : (h : List Mapping) (cs : List Contact) → are_alike (alike h) cs ≡ true → (c d : Contact) → c ∈ cs → d ∈ cs → Answered h (answer_to h d) c
+alike_all : (h : List Mapping) (cs : List Contact) → are_alike (alike h) cs ≡ true → (c d : Contact) → c ∈ cs → d ∈ cs → IsAnswered h (answer_to h d) c
 alike_all h [] is c d i j = absurd i
 alike_all h (x ∷ xs) is c d i j =
     let a = answer_to h x in
-    let all : AllByRecursion (Answered h a) (x ∷ xs) = all_true (is_answered (alike h) a) (Answered h a) (λ e. (answered_decides h a e).0) (x ∷ xs) is in
-    let of_c = at (Answered h a) (x ∷ xs) all c i in
-    let of_d = at (Answered h a) (x ∷ xs) all d j in
-    (of_c.0 ∙ sym of_d.0, of_c.1 ∙ sym of_d.0)
+    let all : AllByRecursion (IsAnswered h a) (x ∷ xs) = all_true (is_answered (alike h) a) (IsAnswered h a) (λ e. (answered_decides h a e).0) (x ∷ xs) is in
+    subst (λ b. IsAnswered h b c) (sym (at (IsAnswered h a) (x ∷ xs) all d j).0) (at (IsAnswered h a) (x ∷ xs) all c i)
 
 flat_filtered : {X Y Z : Type 0} (f : X → Y) (q : Y → Bool) (F : Y → List Z) (xs : List X) → flat_map F (filter q (map f xs)) ≡ flat_map (λ x. if q (f x) then F (f x) else []) xs
 flat_filtered f q F [] = refl
@@ -141,27 +130,24 @@ module _ (h : List Mapping) (ts : List Tally) (shared : Contact → Text) (named
 
   concerned : (t : Text) → AllByRecursion (Concerns h (Shares t)) (part t)
   unfolding part
-  concerned t =
-      elim (are_alike (alike h) (group t)) as (λ b. AllByRecursion (Concerns h (Shares t)) (if not b then group_entries (alike h) (members t) else [])) [
-        | true ↦ tt
-        | false ↦ entries_concern h (Shares t) (wanted t) (group t) (each (Shares t) (group t) (from_group t))
-      ]
+  concerned t = search (rules, entries_concern h (Shares t) (wanted t) (group t) (each (Shares t) (group t) (from_group t)))
 
-  if_alike : (c : Contact) → c ∈ contacts ts → are_alike (alike h) (group (text c)) ≡ true → Answered h (wanted (text c)) c
+  if_alike : (c : Contact) → c ∈ contacts ts → are_alike (alike h) (group (text c)) ≡ true → IsAnswered h (wanted (text c)) c
   if_alike c i is =
       let d = proper_comes h (members (text c)) c (in_group c i) in
-      subst (λ a. Answered h a c) d.2 (alike_all h (group (text c)) is c d.0 (in_group c i) d.1)
+      subst (λ a. IsAnswered h a c) d.2 (alike_all h (group (text c)) is c d.0 (in_group c i) d.1)
 
+  -- it has a name if one has
   pub wanting : (t : Text) → AllByRecursion (IsWanting h (wanted t)) (group t)
-  wanting t = each (IsWanting h (wanted t)) (group t) (λ c i e. at (λ c. (answer_to h c).name ≡ []) (group t) (proper_named h (members t) e) c i)
+  wanting t = each (IsWanting h (wanted t)) (group t) (λ c i e. at (λ c. (answer_to h c).name ≡ []) (group t) (from_counted (λ c. c.name ≡ []) h (members t) (none_named (counted (alike h) (members t)) e)) c i)
 
-  for_text : (c : Contact) → c ∈ contacts ts → Answered (h ++ part (text c)) (wanted (text c)) c
+  for_text : (c : Contact) → c ∈ contacts ts → IsAnswered (h ++ part (text c)) (wanted (text c)) c
   unfolding part
   for_text c i =
-      elim (are_alike (alike h) (group (text c))) as (λ b. are_alike (alike h) (group (text c)) ≡ b → Answered (h ++ (if not b then group_entries (alike h) (members (text c)) else [])) (wanted (text c)) c) [
-        | true ↦ λ is. subst (λ l. Answered l (wanted (text c)) c) (sym (append-nil h)) (if_alike c i is)
+      elim (are_alike (alike h) (group (text c))) as (λ b. are_alike (alike h) (group (text c)) ≡ b → IsAnswered (h ++ (if not b then group_entries (alike h) (members (text c)) else [])) (wanted (text c)) c) [
+        | true ↦ λ is. subst (λ l. IsAnswered l (wanted (text c)) c) (sym (append-nil h)) (if_alike c i is)
         | false ↦ λ _.
-            at (Answered (h ++ group_entries (alike h) (members (text c))) (wanted (text c))) (group (text c))
+            at (IsAnswered (h ++ group_entries (alike h) (members (text c))) (wanted (text c))) (group (text c))
             (entries_all (group (text c)) h named (wanted (text c)) (wanting (text c))) c (in_group c i)
       ] refl
 
@@ -170,11 +156,11 @@ module _ (h : List Mapping) (ts : List Tally) (shared : Contact → Text) (named
     alone : (c : Contact) → c ∈ contacts ts → (t : Text) → AllByRecursion (λ x. affects h c x ≡ true → t ≡ text c) (part t)
     alone c i t = all_weaker (part t) (λ x concern affected. sym (concern.is_in).1 ∙ together concern.b c (concern.is_in).0 i (affected_linked h (Shares t) x c concern affected)) (concerned t)
 
-    pub grouped : (c : Contact) → c ∈ contacts ts → text c ≢ [] → Answered (h ++ added) (wanted (text c)) c
+    pub grouped : (c : Contact) → c ∈ contacts ts → text c ≢ [] → IsAnswered (h ++ added) (wanted (text c)) c
     grouped c i some =
         let passes : not (bytes_eq (text c) []) ≡ true = ap not (false_from_ne_true (bytes_eq (text c) []) (λ e. some (same_bytes (text c) [] e))) in
         let among = among_passing (λ t. not (bytes_eq t [])) (text c) (map text (contacts ts)) passes (at (λ c. list_any (bytes_eq (text c)) (map text (contacts ts)) ≡ true) (contacts ts) (all_among text (contacts ts)) c i) in
-        subst (λ l. Answered (h ++ l) (wanted (text c)) c) (sym added_are) (answered_by_own h c part (text c) (alone c i) (wanted (text c)) all_texts among (for_text c i))
+        subst (λ l. IsAnswered (h ++ l) (wanted (text c)) c) (sym added_are) (answered_by_own h c part (text c) (alone c i) (wanted (text c)) all_texts among (for_text c i))
 
     -- each contact whose answer shares nothing is answered as before
     pub others : (c : Contact) → c ∈ contacts ts → text c ≡ [] → Stays h added c
@@ -192,8 +178,7 @@ module _ (h : List Mapping) (ts : List Tally) (shared : Contact → Text) (named
     shares : (c : Contact) → c ∈ contacts ts → shared (answer_to (h ++ added) c) ≡ text c
     shares c i = let d = comes c i in ap shared (sym d.2) ∙ d.3
 
-    pub one_by_text : (b c : Contact) → b ∈ contacts ts → c ∈ contacts ts → shared (answer_to (h ++ added) b) ≡ shared (answer_to (h ++ added) c) → shared (answer_to (h ++ added) c) ≢ []
-        → answer_to (h ++ added) b ≡ answer_to (h ++ added) c
+    pub one_by_text : (b c : Contact) → b ∈ contacts ts → c ∈ contacts ts → Agree shared (h ++ added) b c
     one_by_text b c i j same some = search (rules, shares, grouped)
 
     other_stays : (c : Contact) → c ∈ contacts ts → is_grouped shared (alike h) ts c ≡ false → Stays h added c
@@ -215,10 +200,7 @@ module _ (h : List Mapping) (ts : List Tally) (shared : Contact → Text) (named
             groups = each_group shared h ts (λ g. AllByRecursion (λ c. answer_to (h ++ added) c ≡ proper_answer (alike h) g) (contacts g)) (λ t some. each (λ c. answer_to (h ++ added) c ≡ wanted t) (group t)
                 (λ c i. let found = from_group t c i in (grouped c found.0 (λ e. some (sym found.1 ∙ e))).0 ∙ ap wanted found.1));
             others = each (λ c. is_grouped shared (alike h) ts c ≡ false → Stays h added c) cs other_stays;
-            distinct =
-                each (λ b. AllByRecursion (λ c. shared (answer_to (h ++ added) b) ≡ shared (answer_to (h ++ added) c) → shared (answer_to (h ++ added) c) ≢ [] → answer_to (h ++ added) b ≡ answer_to (h ++ added) c) cs) cs
-                (λ b i. each (λ c. shared (answer_to (h ++ added) b) ≡ shared (answer_to (h ++ added) c) → shared (answer_to (h ++ added) c) ≢ [] → answer_to (h ++ added) b ≡ answer_to (h ++ added) c) cs
-                (λ c j. one_by_text b c i j));
+            distinct = each_pair (Agree shared (h ++ added)) cs one_by_text;
             git = each (λ c. git_answer_to (h ++ added) c ≡ answer_to (h ++ added) c) cs git_agrees;
           }
 
@@ -257,27 +239,21 @@ module _ (h : List Mapping) (ts : List Tally) (all : AllByRecursion HasNoEmptyNa
   emails_named = added_named h ts email_shared all
 
   -- answers with one email are the same
-  one_by_email : (b c : Contact) → b ∈ cs → c ∈ cs → email_shared (answer_to with_emails b) ≡ email_shared (answer_to with_emails c) → email_shared (answer_to with_emails c) ≢ [] → answer_to with_emails b ≡ answer_to with_emails c
+  one_by_email : (b c : Contact) → b ∈ cs → c ∈ cs → Agree email_shared with_emails b c
   one_by_email = one_by_text h ts email_shared all by_email
 
   by_name : (b c : Contact) → b ∈ cs → c ∈ cs → Linked with_emails b c → name_shared (answer_to with_emails b) ≡ name_shared (answer_to with_emails c)
   by_name b c i j linked = name_alike (answer_to with_emails b) (answer_to with_emails c) (linked_email with_emails b c linked) (one_by_email b c i j (linked_email with_emails b c linked))
 
-  git_by_name : (c : Contact) → c ∈ cs → name_shared (answer_to with_emails c) ≡ [] → git_answer_to with_emails c ≡ answer_to with_emails c
-  git_by_name c i none = git_agrees h ts email_shared all by_email git_by_email c i
-
   pub unites_names : Unites name_shared with_emails ts with_names
-  unites_names = unites with_emails ts name_shared emails_named by_name git_by_name
-
-  abbrev HaveOneEmail : Contact → Contact → Type 0
-  HaveOneEmail b c = email_shared (answer_to with_names b) ≡ email_shared (answer_to with_names c) → email_shared (answer_to with_names c) ≢ [] → answer_to with_names b ≡ answer_to with_names c
+  unites_names = unites with_emails ts name_shared emails_named by_name (λ c i none. git_agrees h ts email_shared all by_email git_by_email c i)
 
   -- no two answers share an email and differ then, either
-  pub emails_stay : AllByRecursion (λ b. AllByRecursion (HaveOneEmail b) cs) cs
-  emails_stay = each (λ b. AllByRecursion (HaveOneEmail b) cs) cs (λ b i. each (HaveOneEmail b) cs (λ c j same some.
+  pub emails_stay : AllAgree email_shared with_names cs
+  emails_stay = each_pair (Agree email_shared with_names) cs (λ b c i j same some.
       let d = comes with_emails ts name_shared emails_named by_name b i in
       let e = comes with_emails ts name_shared emails_named by_name c j in
-      sym d.2 ∙ one_by_email d.0 e.0 d.1 e.1 (ap email_shared d.2 ∙ same ∙ sym (ap email_shared e.2)) (λ none. some (sym (ap email_shared e.2) ∙ none)) ∙ e.2))
+      sym d.2 ∙ one_by_email d.0 e.0 d.1 e.1 (ap email_shared d.2 ∙ same ∙ sym (ap email_shared e.2)) (λ none. some (sym (ap email_shared e.2) ∙ none)) ∙ e.2)
 
 -- ==== suggested entries can be written, if the mappings and the contacts can
 
@@ -302,33 +278,15 @@ spelled_writable h c all = by (of_email h (folded c.email))
     by [] all = tt
     by (x ∷ xs) all = all.0.emails.1
 
+made_writable : (c : Contact) (f : Fields) (kept : Option Text) → IsWritableContact c → AreWritable f → IfSome kept IsWritableEmail → IsWritableContact (made c f kept)
+made_writable c f kept w fits email = search rules
+
 pub answer_writable : (h : List Mapping) (c : Contact) → AllByRecursion IsWritable h → IsWritableContact c → IsWritableContact (answer_to h c)
 answer_writable h c all w =
-    let f = fields_writable h c all in
-    subst IsWritableContact (sym (answer_is h c))
-    (record { name = names (fields h c).name f.0; email = emails (fields h c).email (spelled h c) f.1 (spelled_writable h c all) })
-  where
-    names : (o : Option Text) → IfSome o IsWritableName → unwrap_or o c.name ≢ [] → IsWritableName (unwrap_or o c.name)
-    names None p = w.name
-    names (Some n) p = λ _. p
-
-    emails : (o s : Option Text) → IfSome o IsWritableEmail → IfSome s IsWritableEmail → IsWritableEmail (unwrap_or o (unwrap_or s c.email))
-    emails None None p q = w.email
-    emails None (Some t) p q = q
-    emails (Some t) s p q = p
+    subst IsWritableContact (sym (answer_is h c)) (made_writable c (fields h c) (spelled h c) w (fields_writable h c all) (spelled_writable h c all))
 
 pub git_writable : (h : List Mapping) (c : Contact) → AllByRecursion IsWritable h → IsWritableContact c → IsWritableContact (git_answer_to h c)
-git_writable h c all w =
-    let f = fields_writable h c all in
-    subst IsWritableContact (sym (git_is h c)) (record { name = names (fields h c).name f.0; email = emails (fields h c).email f.1 })
-  where
-    names : (o : Option Text) → IfSome o IsWritableName → unwrap_or o c.name ≢ [] → IsWritableName (unwrap_or o c.name)
-    names None p = w.name
-    names (Some n) p = λ _. p
-
-    emails : (o : Option Text) → IfSome o IsWritableEmail → IsWritableEmail (unwrap_or o c.email)
-    emails None p = w.email
-    emails (Some t) p = p
+git_writable h c all w = subst IsWritableContact (sym (git_is h c)) (made_writable c (fields h c) None w (fields_writable h c all) tt)
 
 -- a contact without a name has no entry of its own
 pub unnamed_own : (h : List Mapping) (c : Contact) → AllByRecursion IsWritable h → c.name ≡ [] → own_fields h c ≡ None
@@ -340,15 +298,6 @@ unnamed_own h c all empty = search (rules, filter_none, all_weaker, accepted_all
 pub record IsSuggestible (to : Contact) : Type 0 where
   pub writable : IsWritableContact to
   pub some : to.email ≢ []
-
-long_good : (to c : Contact) → IsSuggestible to → IsWritableContact c → IsGood (long_form to c)
-long_good to c s w = search rules
-
-short_good : (to : Contact) → IsSuggestible to → is_some (name_unless_empty to) ≡ true → IsGood (short_form to)
-short_good to s named = search rules
-
-named_good : (to c : Contact) → IsSuggestible to → IsWritableContact c → c.name ≢ [] → IsGood (named_form to c)
-named_good to c s w some = search rules
 
 -- ---- the entries
 
@@ -364,8 +313,8 @@ module _ (h : List Mapping) (writable : AllByRecursion IsWritable h) where
       let ones = of_old_email email cs in
       let good : AllByRecursion IsWritableContact ones = all_filtered (λ c. bytes_eq email (folded c.email)) IsWritableContact IsWritableContact (λ c w _. w) cs each in
       email_needed h named to email ones (of_email_all cs (IsWanting h to) email wanting) IsGood
-      (all_weaker ones (λ c w. (λ some _. short_good to s some, long_good to c s w)) good)
-      (all_weaker ones (λ c w owned. named_good to c s w (λ empty. owned (unnamed_own h c writable empty))) good)) emails)
+      (all_weaker ones (λ c w. (λ some _. search rules, search rules)) good)
+      (all_weaker ones (λ c w owned. let some : c.name ≢ [] = λ empty. owned (unnamed_own h c writable empty) in search rules) good)) emails)
 
   -- ---- all suggested entries
 
@@ -419,9 +368,6 @@ said n s = mappings_in (readings_from reading n (pieces s))
 abbrev Says : Text → List Mapping → Type 0
 Says s es = (n : ℕ) (rest : Text) → (m : ℕ) × (said n (s ++ rest) ≡ es ++ said m rest)
 
-nothing_said : Says [] []
-nothing_said n rest = (n, refl)
-
 both_said : (s t : Text) (es fs : List Mapping) → Says s es → Says t fs → Says (s ++ t) (es ++ fs)
 both_said s t es fs first second n rest =
     let a = first n (t ++ rest) in
@@ -429,7 +375,7 @@ both_said s t es fs first second n rest =
     (b.0, ap (said n) (append_assoc s t rest) ∙ a.1 ∙ ap (λ l. es ++ l) b.1 ∙ sym (append_assoc es fs (said b.0 rest)))
 
 all_said : {X : Type 0} (text : X → Text) (es : X → List Mapping) (xs : List X) → AllByRecursion (λ x. Says (text x) (es x)) xs → Says (flat_map text xs) (flat_map es xs)
-all_said text es [] all = nothing_said
+all_said text es [] all = λ n rest. (n, refl)
 all_said text es (x ∷ xs) all = both_said (text x) (flat_map text xs) (es x) (flat_map es xs) all.0 (all_said text es xs all.1)
 
 -- what a line says
@@ -476,11 +422,7 @@ git_line false = tt
 git_line true = (omega arith, (omega arith, (omega arith, (omega arith, (omega arith, (omega arith, (omega arith, tt)))))))
 
 count_said : (is_gits : Bool) (t : Tally) → IsWritableContact t.contact → Says (count_line is_gits t.seen.count t.contact ++ 10 ∷ []) []
-count_said is_gits t w = line_said (count_line is_gits t.seen.count t.contact) []
-    (all_append (λ x. x ≢ 10) (codes "# " ++ decimal t.seen.count ++ 32 ∷ contact_line t.contact.name t.contact.email) (by_git is_gits)
-    (all_append (λ x. x ≢ 10) (codes "# " ++ decimal t.seen.count) (32 ∷ contact_line t.contact.name t.contact.email)
-    (all_append (λ x. x ≢ 10) (codes "# ") (decimal t.seen.count) (omega arith, (omega arith, tt)) (decimal_line t.seen.count))
-    (omega arith, contact_holds_no_feed t.contact w)) (git_line is_gits)) (λ n. refl)
+count_said is_gits t w = line_said (count_line is_gits t.seen.count t.contact) [] (search (rules, all_append, decimal_line, contact_holds_no_feed, git_line)) (λ n. refl)
 
 body_line : (e : Mapping) → IsWritable e → HoldsNo 10 (entry_line e)
 body_line e w = search (rules, one_line)
@@ -491,9 +433,6 @@ unless_marked b es = if b then [] else es
 entry_said : (b : Bool) (e : Mapping) → IsGood e → Says (mark b ++ entry_line e ++ 10 ∷ []) (unless_marked b (e ∷ []))
 entry_said true e g = line_said (mark true ++ entry_line e) [] (omega arith, (omega arith, body_line e g.0)) (λ n. refl)
 entry_said false e g = line_said (entry_line e) (e ∷ []) (body_line e g.0) (λ n. ap of_reading (entry_read n e g.0 g.1).0)
-
-blank_said : Says (10 ∷ []) []
-blank_said = line_said [] [] tt (λ n. ap (λ t. of_reading (unless_blank line_reading n t)) trim-nil)
 
 -- ---- lists of lines
 
@@ -538,7 +477,8 @@ module _ (h : List Mapping) (writable : AllByRecursion IsWritable h) (g : List T
       let d = count_lines true (git_counted (alike h) g) in
       let lines = entry_lines b (group_entries (alike h) g) in
       subst (Says (group_text (alike h) b g)) (append-nil es)
-      (both_said (a ++ d ++ lines) (10 ∷ []) es [] (both_said (a ++ d) lines [] es (both_said a d [] [] (counts_said false (counted (alike h) g) each_answer) (counts_said true (git_counted (alike h) g) each_git_answer)) (entries_said b (group_entries (alike h) g) good)) blank_said)
+      (both_said (a ++ d ++ lines) (10 ∷ []) es [] (both_said (a ++ d) lines [] es (both_said a d [] [] (counts_said false (counted (alike h) g) each_answer) (counts_said true (git_counted (alike h) g) each_git_answer)) (entries_said b (group_entries (alike h) g) good))
+      (line_said [] [] tt (λ n. ap (λ t. of_reading (unless_blank line_reading n t)) trim-nil)))
 
 -- ---- the whole text
 

@@ -1,14 +1,11 @@
 -- The answers to the contacts of a group, counted.
-use Rattle.std.specs.Prelude.{◌+◌, ℕ, not, if◌then◌else◌, Option, List, [], ◌∷◌, map, filter}
-use Rattle.std.specs.List.{find, slice_get}
-use Rattle.std.specs.Option.{option_or}
+use Rattle.std.specs.Prelude.{◌+◌, ℕ, not, if◌then◌else◌, List, [], ◌∷◌, map, filter}
 use Rattle.std.specs.Ordering.{is_lt, nat_cmp, ordering_then}
 use Rattle.std.specs.declared.cmp.Ordering.{Ordering}
 use Rattle.mailmap_contacts.specs.Contacts.{Tally, answer_to, answered, contact_cmp, same_contact, tallied}
-use Rattle.mailmap_contacts.specs.Proper.{has_text}
 use Rattle.mailmap_suggestions.specs.Forms.{Histories, git_answer_to}
 
--- by descending count, then by ascending first line; contacts that come on one line are in some order
+-- by descending count, then by ascending first line; then by name and email, which decides only if first lines are equal
 abbrev pub frequency_cmp : Tally → Tally → Ordering
 frequency_cmp a b =
     ordering_then (ordering_then (nat_cmp b.seen.count a.seen.count) (nat_cmp a.seen.first_line b.seen.first_line))
@@ -25,10 +22,6 @@ by_frequency (t ∷ ts) = inserted t (by_frequency ts)
 
 abbrev pub counted : Histories → List Tally → List Tally
 counted h g = by_frequency (tallied (map (answered h.ours) g))
-
--- the first with a name, or else the first
-abbrev pub first_named : List Tally → Option Tally
-first_named ts = option_or (find (λ t. has_text t.contact.name) ts) (slice_get ts 0)
 
 -- ---- git's answers
 

@@ -1,5 +1,5 @@
 -- What git answers to contacts, and the entries by which they get one answer.
-use Rattle.std.specs.Prelude.{Bool, ◌&&◌, ◌||◌, ◌++◌, not, if◌then◌else◌, is_some, Option, Some, None, List, [], ◌∷◌}
+use Rattle.std.specs.Prelude.{◌≡◌, Bool, ◌&&◌, ◌||◌, ◌++◌, not, if◌then◌else◌, is_some, Option, Some, None, List, [], ◌∷◌}
 use Rattle.std.specs.Prelude.{map, filter, bytes_eq, unwrap_or}
 use Rattle.std.specs.List.{flat_map, list_all}
 use Rattle.mailmap_entries.specs.Entries.{Mapping, mapping}
@@ -34,6 +34,14 @@ alike h = record { ours = h; gits = h }
 -- with entries appended, which both read alike
 abbrev pub plus : Histories → List Mapping → Histories
 plus h added = record { ours = h.ours ++ added; gits = h.gits ++ added }
+
+-- both answers to a contact are `to`
+abbrev pub IsAnswered : List Mapping → Contact → Contact → Type 0
+IsAnswered h to c = (answer_to h c ≡ to) × (git_answer_to h c ≡ to)
+
+-- both are as before when these entries are appended
+abbrev pub Stays : List Mapping → List Mapping → Contact → Type 0
+Stays h added c = (answer_to (h ++ added) c ≡ answer_to h c) × (git_answer_to (h ++ added) c ≡ git_answer_to h c)
 
 -- whether this library and git both answer a contact by `to`
 abbrev pub is_answered : Histories → Contact → Contact → Bool

@@ -7,7 +7,8 @@ use Rattle.mailmap_contacts.specs.Contacts.{Contact, Tally, answer_to}
 use Rattle.mailmap_entries.specs.Entries.{Mapping}
 use Rattle.mailmap_entries.specs.Folding.{Text, folded}
 use Rattle.mailmap_grammar.specs.CanonicalText.{IsWritableEmail, IsWritableName}
-use Rattle.mailmap_suggestions.specs.Counted.{counted, first_named}
+use Rattle.mailmap_contacts.specs.Proper.{proper}
+use Rattle.mailmap_suggestions.specs.Counted.{counted}
 use Rattle.mailmap_suggestions.specs.Forms.{Histories, alike, are_answered, distinct, entries_to, git_answer_to, plus}
 
 abbrev pub contacts : List Tally → List Contact
@@ -58,7 +59,7 @@ contact_or_nobody (Some t) = t.contact
 
 -- of those with a name, or of all if none has one, the one that comes most often; of several of these the first
 abbrev pub proper_answer : Histories → List Tally → Contact
-proper_answer h g = contact_or_nobody (first_named (counted h g))
+proper_answer h g = contact_or_nobody (proper (counted h g))
 
 -- ---- entries
 
@@ -83,6 +84,13 @@ name_entries h ts = all_entries name_shared (plus h (email_entries h ts)) ts
 abbrev pub HasNoEmptyName : Mapping → Type 0
 HasNoEmptyName e = e.new_name ≢ Some []
 
+-- the answers to two contacts are the same if they share a text
+abbrev pub Agree : (Contact → Text) → List Mapping → Contact → Contact → Type 0
+Agree shared g b c = shared (answer_to g b) ≡ shared (answer_to g c) → shared (answer_to g c) ≢ [] → answer_to g b ≡ answer_to g c
+
+abbrev pub AllAgree : (Contact → Text) → List Mapping → List Contact → Type 0
+AllAgree shared g cs = AllByRecursion (λ b. AllByRecursion (Agree shared g b) cs) cs
+
 -- The mappings g answer the contacts as h does, but those of each group by its proper answer. So no two answers share
 -- an email, or a name, and differ.
 pub record Unites (shared : Contact → Text) (h : List Mapping) (ts : List Tally) (g : List Mapping) : Type 0 where
@@ -90,8 +98,7 @@ pub record Unites (shared : Contact → Text) (h : List Mapping) (ts : List Tall
       (contacts group)) (groups shared (alike h) ts)
   pub others : AllByRecursion (λ c. is_grouped shared (alike h) ts c ≡ false
       → (answer_to g c ≡ answer_to h c) × (git_answer_to g c ≡ git_answer_to h c)) (contacts ts)
-  pub distinct : AllByRecursion (λ b. AllByRecursion (λ c. shared (answer_to g b) ≡ shared (answer_to g c)
-      → shared (answer_to g c) ≢ [] → answer_to g b ≡ answer_to g c) (contacts ts)) (contacts ts)
+  pub distinct : AllAgree shared g (contacts ts)
   -- git's answers are the same
   pub git : AllByRecursion (λ c. git_answer_to g c ≡ answer_to g c) (contacts ts)
 

@@ -1,7 +1,6 @@
 pub use Rattle.mailmap_entries.specs.Folding
-pub mod Changes
 pub mod Counted
-pub mod Grouping
+pub mod Private
 pub mod Histories
 pub mod Forms
 pub mod Suggestions

@@ -9,7 +9,7 @@ use Rattle.mailmap_suggestions.specs.GroupEntries.{email_entries, email_shared, 
 -- the answers to a group of contacts, and the entries that give it one answer
 pub record Suggestion : Type 0 where
   pub answers : List Tally
-  -- git's, where they differ
+  -- git's, where they differ, with the ranks of contacts in the place of first lines
   pub git_answers : List Tally
   pub entries : List Mapping
   -- whether somebody has to judge whether the group is one person

@@ -8,7 +8,7 @@ ghost use Rattle.mailmap_redundancy.specs.Numbers.{fields_of};
 ghost use Rattle.mailmap_contacts.specs.Answers.{tally_of};
 ghost use Rattle.mailmap_contacts.specs.Contacts.{answered, contacts_from, tallied};
 ghost use Rattle.mailmap_contacts.specs.Counts.{AreContactsOf};
-ghost use Rattle.mailmap_suggestions.specs.Changes.{contacts_of};
+ghost use Rattle.mailmap_suggestions.specs.Private.{contacts_of};
 ghost use Rattle.mailmap_suggestions.specs.Counted.{git_answered, other_git_answers};
 ghost use Rattle.mailmap_suggestions.specs.Forms.{is_answered, own_key, replaced};
 ghost use Rattle.mailmap_suggestions.specs.GroupEntries.{are_alike};

@@ -6,7 +6,7 @@ ghost use Rattle.mailmap_entries.specs.Entries.{Mapping};
 ghost use Rattle.mailmap_entries.specs.Folding.{Text, folded};
 ghost use Rattle.mailmap_contacts.specs.Answers.{tally_of};
 ghost use Rattle.mailmap_contacts.specs.Contacts.{Contact};
-ghost use Rattle.mailmap_suggestions.specs.Changes.{AreChangesBy, IsPlain, after, are_enough, listed};
+ghost use Rattle.mailmap_suggestions.specs.Private.{AreChangesBy, IsPlain, after, are_enough, listed};
 ghost use Rattle.mailmap_suggestions.specs.Forms.{name_unless_empty, named_form};
 
 use crate::answers::Answers;
@@ -101,8 +101,9 @@ impl<'a> Changes<'a> {
             && is_same(&self.after(to, contact, &gits, is_gits_own, true), to)
     }
 
-    // The answer to a contact, by that before, whether the contact has an entry of its own, and whether its email keeps
-    // the spelling of that answer.
+    // The answer to a contact after these entries, by that before. `has_own`: an entry with its old name was there, and
+    // hides those without one. `is_spelled`: these entries don't change how the email is spelled, since an earlier entry
+    // spells it, or since git answers, which keeps the contact's spelling.
     fn after(
         &self,
         to: &Tally<'a>,

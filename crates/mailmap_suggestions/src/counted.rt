@@ -1,14 +1,16 @@
 //! The answers to the contacts of a group, counted, and the proper one of them.
-ghost use Rattle.std.specs.Prelude.{◌≡◌, IfOk, map, option_map};
-ghost use Rattle.mailmap_contacts.specs.Answers.{tally_at, tally_of};
+ghost use Rattle.std.specs.Prelude.{◌≡◌, IfOk, map};
+ghost use Rattle.mailmap_contacts.specs.Answers.{tally_of};
 ghost use Rattle.mailmap_contacts.specs.Contacts.{tallied};
-ghost use Rattle.mailmap_suggestions.specs.Counted.{by_frequency, counted, first_named, frequency_cmp};
+ghost use Rattle.mailmap_contacts.specs.Proper.{proper};
+ghost use Rattle.mailmap_suggestions.specs.Counted.{by_frequency, counted, frequency_cmp};
 ghost use Rattle.mailmap_suggestions.specs.Counted.{git_counted, ranked};
+ghost use Rattle.mailmap_suggestions.specs.GroupEntries.{contact_or_nobody};
 
 use crate::answers::Answers;
 use mailmap_contacts::answers::{Tally, answers_in};
 use mailmap_contacts::occurrences::{Occurrences, add_to};
-use mailmap_contacts::proper::has_text;
+use mailmap_contacts::proper::proper_of;
 use std::alloc::{AllocError, Global};
 use std::cmp::Ordering;
 use std::collections::BTreeMap;
@@ -84,12 +86,17 @@ fn compare(a: &Tally<'_>, b: &Tally<'_>) -> Ordering
     counts.then(lines).then(contacts)
 }
 
-/// The proper one of counted answers, `None` if there are none: the first with a name, or else the first.
-pub(crate) fn proper_of<'r, 'a>(answers: &'r [Tally<'a>]) -> Option<&'r Tally<'a>>
-    ensures { option_map tally_at result ≡ first_named (map tally_of answers.now) }
+/// The proper one of counted answers, or nobody if there are none.
+#[tactic(auto, using(crate::proofs::Forms::nobody_or))]
+pub(crate) fn proper_or_nobody<'a>(answers: &[Tally<'a>]) -> Tally<'a>
+    ensures { (tally_of result).contact ≡ contact_or_nobody (proper (map tally_of answers.now)) }
 {
-    answers
-        .iter()
-        .find(|answer| has_text(answer.name))
-        .or(answers.first())
+    proper_of(answers).copied().unwrap_or(Tally {
+        name: b"",
+        email: b"",
+        seen: Occurrences {
+            count: 0,
+            first_line: 0,
+        },
+    })
 }

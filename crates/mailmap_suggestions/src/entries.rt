@@ -3,7 +3,7 @@ ghost use Rattle.std.specs.Prelude.{◌≡◌, ◌++◌, IfOk, List, OnOk, filte
 ghost use Rattle.mailmap_entries.specs.Entries.{Mapping, mapping_of};
 ghost use Rattle.mailmap_entries.specs.Folding.{Text};
 ghost use Rattle.mailmap_contacts.specs.Answers.{tally_of};
-ghost use Rattle.mailmap_suggestions.specs.Changes.{AreChangesBy, HaveEmail, contacts_of, listed};
+ghost use Rattle.mailmap_suggestions.specs.Private.{AreChangesBy, HaveEmail, contacts_of, listed};
 ghost use Rattle.mailmap_suggestions.specs.Forms.{entries_for_email, entries_to, fits, has_own_entry, long_form};
 ghost use Rattle.mailmap_suggestions.specs.Forms.{named_entries, named_form, plain_entries, plus};
 
@@ -144,10 +144,11 @@ fn push_named_entries<'a>(
         ++ named_entries (plus answers.now plain) (tally_of to.now).contact (contacts_of contacts.now)) }
 {
     for contact in contacts {
-        if !changes.are_enough(answers, to, contact) {
-            entries.push(named_form(to, contact))?;
-            changes.add_name(contact)?;
+        if changes.are_enough(answers, to, contact) {
+            continue;
         }
+        entries.push(named_form(to, contact))?;
+        changes.add_name(contact)?;
     }
     Ok(())
 }

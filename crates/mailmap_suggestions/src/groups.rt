@@ -2,11 +2,10 @@
 ghost use Rattle.std.specs.Prelude.{◌≡◌, ◌++◌, [], IfOk, OnOk, bytes_eq, filter, map, not, option_to_list};
 ghost use Rattle.mailmap_entries.specs.Folding.{folded};
 ghost use Rattle.mailmap_contacts.specs.Answers.{tally_of};
-ghost use Rattle.mailmap_suggestions.specs.Changes.{contacts_of};
+ghost use Rattle.mailmap_suggestions.specs.Private.{contacts_of, HasMembers, grouped, has_key, keyed_by, keyed_of};
+ghost use Rattle.mailmap_suggestions.specs.Private.{shared_by, tallies_in, text_of};
 ghost use Rattle.mailmap_suggestions.specs.Forms.{distinct, of_old_email};
 ghost use Rattle.mailmap_suggestions.specs.GroupEntries.{contacts, groups};
-ghost use Rattle.mailmap_suggestions.specs.Grouping.{HasMembers, grouped, has_key, keyed_by, keyed_of};
-ghost use Rattle.mailmap_suggestions.specs.Grouping.{shared_by, tallies_in, text_of};
 
 use crate::answers::Answers;
 use mailmap_contacts::answers::Tally;
@@ -19,7 +18,7 @@ use std::collections::BTreeMap;
 pub(crate) type Groups<'a> = Vec<Vec<Tally<'a>>>;
 
 /// The contacts whose answers share an email or a name, ASCII case aside, unless this library and git answer all of
-/// them alike. In the order of their first members.
+/// them alike. So a group may be one contact that git answers otherwise. In the order of their first members.
 pub(crate) fn groups_of<'a>(
     alloc: Global,
     answers: &Answers<'_, 'a>,
@@ -74,7 +73,7 @@ fn by_shared<'a>(
     Ok(sharing)
 }
 
-// What an answer shares with others. Without an email it shares no name.
+// What an answer shares with others. Without an email it shares no name: then this is the email, which is empty.
 fn shared_text<'a>(shared: Shared, answer: &Tally<'a>) -> &'a [u8]
     ensures { folded result.now ≡ shared_by shared (tally_of answer.now).contact }
 {
@@ -84,7 +83,8 @@ fn shared_text<'a>(shared: Shared, answer: &Tally<'a>) -> &'a [u8]
     }
 }
 
-// A group for each key, in the order of first occurrence.
+// A group for each key, in the order of first occurrence: `remove` returns the group at the first contact with its key,
+// and nothing at later ones.
 fn grouped<'a>(alloc: Global, keyed: &[(Folded<'a>, Tally<'a>)]) -> Result<Groups<'a>, AllocError>
     ensures { IfOk result (λ groups. map tallies_in groups.items ≡ grouped (map keyed_of keyed.now)) }
 {

@@ -9,11 +9,11 @@ ghost use Rattle.mailmap_findings.specs.Findings.{first_read_otherwise};
 ghost use Rattle.mailmap_findings.specs.GitAnswers.{git_mappings};
 ghost use Rattle.mailmap_grammar.specs.CanonicalText.{IsWritable};
 ghost use Rattle.mailmap_grammar.specs.Lines.{HoldsNo, mappings_of, reading, strict_reading};
-ghost use Rattle.mailmap_suggestions.specs.Forms.{Histories, alike, git_answer_to, own_key};
+ghost use Rattle.mailmap_suggestions.specs.Forms.{Histories, IsAnswered, Stays, alike, own_key};
 ghost use Rattle.mailmap_suggestions.specs.Suggestions.{suggestions};
 ghost use Rattle.mailmap_suggestions.specs.SuggestedText.{count_line, entry_line, reviewed_text, mark, suggested_text};
 ghost use Rattle.mailmap_suggestions.specs.SuggestedText.{suggestions_text};
-ghost use Rattle.mailmap_suggestions.specs.GroupEntries.{HasNoEmptyName, IsWritableContact, Unites, contacts};
+ghost use Rattle.mailmap_suggestions.specs.GroupEntries.{AllAgree, HasNoEmptyName, IsWritableContact, Unites, contacts};
 ghost use Rattle.mailmap_suggestions.specs.GroupEntries.{email_entries, email_shared, name_entries, name_shared};
 
 /// An entry with an old name changes only answers to contacts with its key, if there is an entry for its email before.
@@ -22,26 +22,22 @@ pub fn law_others_stay()
     ensures named { (h : List Mapping) (x : Mapping) (c : Contact) → IsSome x.old_name
         → (key x ≡ own_key c → ⊥)
         → (folded x.old_email ≡ folded c.email → IsSome (spelling h (folded c.email)))
-        → (answer_to (h ++ x ∷ []) c ≡ answer_to h c) × (git_answer_to (h ++ x ∷ []) c ≡ git_answer_to h c) }
+        → Stays h (x ∷ []) c }
     ensures plain { (h : List Mapping) (x : Mapping) (c : Contact) → x.old_name ≡ None
         → (folded x.old_email ≡ folded c.email → IsSome (last_fields h (own_key c)))
-        → (answer_to (h ++ x ∷ []) c ≡ answer_to h c) × (git_answer_to (h ++ x ∷ []) c ≡ git_answer_to h c) }
+        → Stays h (x ∷ []) c }
 {}
 
 /// After an entry with a new name and a new email for the key of a contact, its answer is exactly these.
 pub fn law_exact()
     ensures named { (h : List Mapping) (c : Contact) (name email old_name old_email : Text)
         → folded old_name ≡ folded c.name → folded old_email ≡ folded c.email
-        → (answer_to (h ++ mapping (Some name) (Some email) (Some old_name) old_email ∷ []) c
-        ≡ record { name = name; email = email })
-        × (git_answer_to (h ++ mapping (Some name) (Some email) (Some old_name) old_email ∷ []) c
-        ≡ record { name = name; email = email }) }
+        → IsAnswered (h ++ mapping (Some name) (Some email) (Some old_name) old_email ∷ [])
+        (record { name = name; email = email }) c }
     ensures plain { (h : List Mapping) (c : Contact) (name email old_email : Text)
         → last_fields h (own_key c) ≡ None → folded old_email ≡ folded c.email
-        → (answer_to (h ++ mapping (Some name) (Some email) None old_email ∷ []) c
-        ≡ record { name = name; email = email })
-        × (git_answer_to (h ++ mapping (Some name) (Some email) None old_email ∷ []) c
-        ≡ record { name = name; email = email }) }
+        → IsAnswered (h ++ mapping (Some name) (Some email) None old_email ∷ [])
+        (record { name = name; email = email }) c }
 {}
 
 /// Contacts with the same key, or with the same email and no entries of their own, have answers with the same email,
@@ -74,9 +70,7 @@ pub fn law_suggestions()
     ensures names { (h : List Mapping) (ts : List Tally) → AllByRecursion HasNoEmptyName h
         → let g = h ++ email_entries (alike h) ts in Unites name_shared g ts (g ++ name_entries (alike h) ts) }
     ensures emails_stay { (h : List Mapping) (ts : List Tally) → AllByRecursion HasNoEmptyName h
-        → let g = (h ++ email_entries (alike h) ts) ++ name_entries (alike h) ts in
-        AllByRecursion (λ b. AllByRecursion (λ c. email_shared (answer_to g b) ≡ email_shared (answer_to g c)
-        → email_shared (answer_to g c) ≢ [] → answer_to g b ≡ answer_to g c) (contacts ts)) (contacts ts) }
+        → AllAgree email_shared ((h ++ email_entries (alike h) ts) ++ name_entries (alike h) ts) (contacts ts) }
 {}
 
 /// The line of a suggested entry is read as the entry if a line can hold it, and as a comment with its mark. What says

@@ -6,7 +6,7 @@ ghost use Rattle.mailmap_entries.specs.Semantics.{accepted};
 ghost use Rattle.mailmap_contacts.specs.Answers.{tally_of};
 ghost use Rattle.mailmap_contacts.specs.Contacts.{contacts_from, tallied};
 ghost use Rattle.mailmap_contacts.specs.Counts.{AreContactsOf};
-ghost use Rattle.mailmap_suggestions.specs.Grouping.{shared_by};
+ghost use Rattle.mailmap_suggestions.specs.Private.{shared_by};
 ghost use Rattle.mailmap_suggestions.specs.Histories.{histories_of};
 ghost use Rattle.mailmap_suggestions.specs.Forms.{plus};
 ghost use Rattle.mailmap_suggestions.specs.Suggestions.{suggestion, suggestions};
@@ -14,7 +14,7 @@ ghost use Rattle.mailmap_suggestions.specs.GroupEntries.{groups};
 ghost use Rattle.mailmap_suggestions.specs.Views.{suggestion_of};
 
 use crate::answers::Answers;
-use crate::counted::{counted_answers, counted_git_answers, proper_of};
+use crate::counted::{counted_answers, counted_git_answers, proper_or_nobody};
 use crate::entries::entries_to;
 use crate::groups::groups_of;
 use crate::histories::Histories;
@@ -31,7 +31,8 @@ pub struct Suggestion<'a> {
     /// The distinct answers without these entries, the most frequent first. For a group by name, the suggested entries
     /// for emails count already.
     pub answers: Vec<Tally<'a>>,
-    /// git's answers to the contacts that it answers otherwise than this library.
+    /// git's answers to the contacts that it answers otherwise than this library, the most frequent first. Their first
+    /// lines are no lines, but the ranks, from 1, of the most frequent contacts with these answers.
     pub git_answers: Vec<Tally<'a>>,
     pub entries: Vec<Entry<'a>>,
     /// Whether somebody has to look at the entries first: the answers share only a name, so they may be two people.
@@ -99,10 +100,7 @@ fn suggest_for<'a>(
     ensures { IfOk result (λ s. suggestion_of s ≡ suggestion answers.now needs_review (map tally_of group.now)) }
 {
     let counted = counted_answers(alloc, answers, group)?;
-    let entries = match proper_of(&counted) {
-        Some(proper) => entries_to(alloc, answers, proper, group)?,
-        None => Vec::new(alloc),
-    };
+    let entries = entries_to(alloc, answers, &proper_or_nobody(&counted), group)?;
     Ok(Suggestion {
         answers: counted,
         git_answers: counted_git_answers(alloc, answers, group)?,

@@ -86,10 +86,7 @@ pub fn push_entry(
 fn begins_comment(name: Option<&[u8]>) -> bool
     ensures { result ≡ is_comment (unwrap_or (option_copied name.entry) []) }
 {
-    match name {
-        Some(name) => !name.is_empty() && name[0] == b'#',
-        None => false,
-    }
+    matches!(name, Some([b'#', ..]))
 }
 
 fn push_fields(out: &mut Vec<u8>, entry: &Entry<'_>) -> Result<(), AllocError>

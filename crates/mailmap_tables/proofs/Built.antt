@@ -1,5 +1,5 @@
 -- Tables that are built of a sorted batch, email by email.
-use Rattle.std.proofs.Common.{◌≡◌, ◌≢◌, ◌<◌, ◌≤◌, ◌+◌, ℕ, zero, suc, List, [], ◌∷◌, ◌++◌, map, take, drop, length, All}
+use Rattle.std.proofs.Common.{◌≡◌, ◌≢◌, ◌<◌, ◌≤◌, ℕ, zero, suc, List, [], ◌∷◌, ◌++◌, map, take, drop, length, All}
 use Rattle.std.proofs.Common.{Contains, HoldsAt, Less, Some, append-nil, append_assoc, take-append-drop, true, false}
 use Rattle.std.proofs.Common.{refl, sym, ap, subst, ◌∙◌, arith}
 use Rattle.std.specs.Cmp.{tied_itself}
@@ -20,7 +20,7 @@ use Rattle.mailmap_entries.proofs.Normal.{normal_then}
 use Rattle.mailmap_entries.proofs.Parts.{all_append, all_head, all_map, all_mapped, all_tail, all_weaker, map_alike}
 use Rattle.mailmap_batches.specs.Batches.{IsAscending, IsSorted, email_text, first_email, indexed_mapping, mapping_at}
 use Rattle.mailmap_batches.specs.declared.indexed.IndexedEntry.{IndexedEntry}
-use Rattle.mailmap_batches.proofs.Numbered.{mapped_twice}
+use Rattle.mailmap_batches.proofs.Numbered.{mapped_twice, numbered}
 use Rattle.mailmap_batches.proofs.Respelled.{alike_respelled, least_spells, respelled}
 use Rattle.mailmap_tables.specs.Groups.{AreGroups, EmailGroup, listing}
 use Rattle.mailmap_tables.specs.Put.{AreAccepted, with_email}
@@ -93,11 +93,6 @@ emails_ascend (x ∷ xs) up = (
   emails_ascend xs up.1,
 )
 
-numbered_good : (n : ℕ) (xs : List Mapping) → AreAccepted xs
-    → AllByRecursion (λ p. is_accepted p.1 ≡ true) (enumerate_from n xs)
-numbered_good n [] a = tt
-numbered_good n (x ∷ xs) a = (a.0, numbered_good (n + 1) xs a.1)
-
 -- the next entries are accepted, too
 pub group_good : {xs : List Mapping} {batch left : List IndexedEntry} {gs : List EmailGroup} (n : ℕ)
     → AreBuilt xs batch left gs → All IsGood (take n left)
@@ -121,7 +116,8 @@ module _ {xs : List Mapping} {batch : List IndexedEntry} (good : AreAccepted xs)
     apart = tt;
     accepted = all_map indexed_mapping (λ p. is_accepted p.1 ≡ true) batch (recursion_from_All _ _
         (All-permutation (λ p. is_accepted p.1 ≡ true) (enumerate_from 0 xs) (map indexed_mapping batch)
-        sorted.keeps.moved (All-from_recursion _ _ (numbered_good 0 xs good))));
+        sorted.keeps.moved (All-from_recursion _ _ (all_map (λ p. p.1) (λ m. is_accepted m ≡ true) (enumerate_from 0 xs)
+        (subst AreAccepted (sym (numbered 0 xs)) good)))));
     groups = no_groups;
     normal = groups_normal [] no_groups;
   }

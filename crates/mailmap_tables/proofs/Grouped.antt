@@ -11,7 +11,7 @@ use Rattle.std.specs.Option.{option_cmp}
 use Rattle.std.specs.Ordering.{eq_by_cmp, ordering_then, ordering_reverse}
 use Rattle.std.proofs.lemmas.Bool.{or_right, cases_lt}
 use Rattle.std.proofs.lemmas.Grind.{common_steps, flat_map-append}
-use Rattle.std.proofs.lemmas.List.{drop_more}
+use Rattle.std.proofs.lemmas.List.{drop_more, map-append}
 use Rattle.std.proofs.lemmas.List.Elements.{All-from_recursion, filter-append, filter_agree, recursion_from_All}
 use Rattle.std.proofs.lemmas.Map.Keys.{sorted_head, sorted_tail}
 use Rattle.mailmap_entries.specs.Entries.{Mapping}
@@ -22,7 +22,7 @@ use Rattle.mailmap_entries.specs.Building.{IsListing, IsPaired}
 use Rattle.mailmap_entries.specs.Semantics.{Fields, key, key_cmp, first, last, last_given, is_accepted, accepted}
 use Rattle.mailmap_entries.specs.Semantics.{of_email, of_key, has_key, given_fields, last_fields, new_fields}
 use Rattle.mailmap_entries.specs.Semantics.{mapping_with, spelling, value, fields_with_spelling, answer_of, IsNormal}
-use Rattle.mailmap_entries.proofs.Alike.{Alike, alike_back, picked-append, same_normal}
+use Rattle.mailmap_entries.proofs.Alike.{picked-append}
 use Rattle.mailmap_entries.proofs.Joined.{filter_none}
 use Rattle.mailmap_entries.proofs.Keys.{keys_total}
 use Rattle.mailmap_entries.proofs.Lookups.{missing-above, missing-below}
@@ -71,6 +71,9 @@ listing_all P (g ∷ gs) a = all_append P (rows g) (listing gs) a.0 (listing_all
 -- all entries of groups are accepted
 pub groups_accepted : (gs : List EmailGroup) → AllByRecursion (λ e. is_accepted e ≡ true) (listing gs)
 groups_accepted gs = listing_all _ gs (every rows_accepted gs)
+
+-- accepted entries after those of groups are accepted
+pub ruleset listed_accepted = (common_steps, all_append, groups_accepted, map-append)
 
 pub listing-append : (xs ys : List EmailGroup) → listing (xs ++ ys) ≡ listing xs ++ listing ys
 listing-append xs ys = flat_map-append rows xs ys
@@ -143,13 +146,9 @@ rows_sorted : (g : EmailGroup) → IsStrictlySortedBy text_cmp (map name_key g.n
     → IsStrictlySortedBy key_cmp (map key (rows g))
 unfolding IsStrictlySortedBy
 rows_sorted g s =
-    sorted_entries (own_rows g) (map (name_row g.old_email) g.names) (one (is_some g.own.name || is_some g.own.email))
+    sorted_entries (own_rows g) (map (name_row g.old_email) g.names) (grind (arith, common_steps))
     (names_sorted g.old_email g.names s)
     (own_all _ g (λ _. all_rows _ g.old_email g.names (λ n. by_name (email_key g) None (Some (name_key n)) refl)))
-  where
-    one : (b : Bool) → IsStrictlySortedBy key_cmp (map key (if b then mapping_with g.own None g.old_email ∷ [] else []))
-    one true = (tt, tt)
-    one false = tt
 
 listing_sorted : (gs : List EmailGroup) → IsStrictlySortedBy text_cmp (map email_key gs) → AllByRecursion IsGroup gs
     → IsStrictlySortedBy key_cmp (map key (listing gs))
@@ -269,25 +268,30 @@ groups_listing gs are = record {
         (own_all IsPaired g (λ _ named. absurd (true≢false (sym named)))) (all_rows IsPaired g.old_email g.names
         (λ n _. refl))
 
--- groups whose entries are alike a list of mappings are its normal list
-pub normal_of_groups : (h : List Mapping) (gs : List EmailGroup) → AreGroups gs → Alike h (listing gs)
-    → IsNormal h (listing gs)
-normal_of_groups h gs are alike =
-    same_normal (listing gs) h (listing gs) (alike_back h (listing gs) alike) (groups_normal gs are)
-
 -- ---- the answer to a signature
 
 at_index : {X : Type 0} (P : X → Type 0) (xs : List X) → AllByRecursion P xs → (i : ℕ) (x : X) → i < length xs
     → x ≡ get_or xs i x → P x
 at_index P xs all i x lt read = subst P (sym read) (All-from_recursion P xs all i x lt)
 
+module _ (gs : List EmailGroup) (are : AreGroups gs) where
+  at_email : (i : ℕ) (g : EmailGroup) → i < length gs → g ≡ get_or gs i g → IsGroup g × IsOnly gs g
+  at_email i g lt read = (
+    at_index IsGroup gs are.each i g lt read,
+    at_index (IsOnly gs) gs (alone nat_list_cmp_total email_key gs are.ascending) i g lt read,
+  )
+
+  pub spelled_there : (i : ℕ) (g : EmailGroup) → i < length gs → g ≡ get_or gs i g
+      → spelling (listing gs) (email_key g) ≡ Some g.old_email
+  spelled_there i g lt read = let w = at_email i g lt read in spelled_at gs w.0 w.1
+
 module _ (gs : List EmailGroup) (are : AreGroups gs) (name email : Text) (i : ℕ) (g : EmailGroup) (lt : i < length gs)
     (read : g ≡ get_or gs i g) (same : folded g.old_email ≡ folded email) where
   is : IsGroup g
-  is = at_index IsGroup gs are.each i g lt read
+  is = (at_email gs are i g lt read).0
 
   only : IsOnly gs g
-  only = at_index (IsOnly gs) gs (alone nat_list_cmp_total email_key gs are.ascending) i g lt read
+  only = (at_email gs are i g lt read).1
 
   -- by the names of the email that are equal to the given one
   answer_at : (ns : List NameGroup) → filter (λ n. eq_by_cmp text_cmp (folded name) (name_key n)) g.names ≡ ns

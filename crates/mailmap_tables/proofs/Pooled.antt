@@ -1,12 +1,12 @@
 -- What tables represent when the pool grows. The names of what still holds then end in `_on`.
 use Rattle.std.proofs.lemmas.Grind.{common_steps}
-use Rattle.std.proofs.Common.{◌≡◌, ◌≤◌, ℕ, List, [], ◌∷◌, ◌++◌, map, length, Option, option_map, length-append, refl}
-use Rattle.std.proofs.Common.{ap, ◌∙◌, arith}
+use Rattle.std.proofs.Common.{◌≡◌, ◌≤◌, ℕ, List, ◌++◌, map, length, Option, option_map, length-append}
+use Rattle.std.proofs.Common.{sym, ap, ◌∙◌, arith}
 use Rattle.std.specs.Option.{ForSome}
 use Rattle.std.specs.List.{AllByRecursion}
 use Rattle.mailmap_entries.specs.Folding.{Text}
-use Rattle.mailmap_entries.proofs.Parts.{all_weaker}
-use Rattle.mailmap_tables.specs.Groups.{Contents}
+use Rattle.mailmap_entries.proofs.Parts.{all_weaker, map_alike}
+use Rattle.mailmap_tables.specs.Groups.{Contents, name_total}
 use Rattle.mailmap_tables.specs.Pool.{AreTables, Extends, LiesIn, NameInPool, Row, RowInPool, TextsInPool, contents}
 use Rattle.mailmap_tables.specs.Pool.{fields_of, name_group, prefix_of, row_group, spelled}
 use Rattle.mailmap_tables.specs.RowTexts.{old_span}
@@ -29,16 +29,15 @@ module _ (a b : Text) (to : Extends a b) where
 
   name_groups_on : (rs : List RowTexts) → AllByRecursion (NameInPool (length a)) rs
       → map (name_group b) rs ≡ map (name_group a) rs
-  name_groups_on [] all = refl
-  name_groups_on (r ∷ rs) all =
-      cc (spelled_on (old_span r) all.0.texts.old, fields_on r all.0.texts, name_groups_on rs all.1)
+  name_groups_on rs all = map_alike (name_group b) (name_group a) rs
+      (all_weaker rs (λ r lies. cc (spelled_on (old_span r) lies.texts.old, fields_on r lies.texts)) all)
 
   groups_on : (rows : List Row) → AllByRecursion (RowInPool a) rows → map (row_group b) rows ≡ map (row_group a) rows
-  groups_on [] lie = refl
-  groups_on (r ∷ rows) lie =
-      let its = lie.0.email_lies in
-      let names = name_groups_on r.names lie.0.names_lie in
-      cc (spelled_on (old_span r.texts) its.old, fields_on r.texts its, names, groups_on rows lie.1)
+  groups_on rows lie = map_alike (row_group b) (row_group a) rows (all_weaker rows (λ r its. cc (
+    spelled_on (old_span r.texts) its.email_lies.old,
+    fields_on r.texts its.email_lies,
+    name_groups_on r.names its.names_lie,
+  )) lie)
 
   pub texts_lie_on : (t : RowTexts) → TextsInPool (length a) t → TextsInPool (length b) t
   texts_lie_on t lies = grind (arith, common_steps, grown)
@@ -52,17 +51,12 @@ module _ (a b : Text) (to : Extends a b) where
     }) lies.names_lie;
   }
 
-  prefixes_on : (rows : List Row) → AllByRecursion (RowInPool a) rows
-      → map (prefix_of a) rows ≡ map (prefix_of b) rows
-  prefixes_on [] all = refl
-  prefixes_on (r ∷ rows) all = cc (spelled_on (old_span r.texts) all.0.email_lies.old, prefixes_on rows all.1)
-
   module _ (rows : List Row) {prefixes : List ℕ} {count : ℕ} (h : AreTables a rows prefixes count) where
     pub tables_on : AreTables b rows prefixes count
     tables_on = record {
       lie = all_weaker rows row_lies_on h.lie;
-      prefix_each = h.prefix_each ∙ prefixes_on rows h.lie;
-      counted = h.counted;
+      prefix_each = h.prefix_each ∙ ap (map prefix_of) (sym (groups_on rows h.lie));
+      counted = h.counted ∙ ap name_total (sym (groups_on rows h.lie));
       few = h.few;
     }
 

@@ -1,104 +1,109 @@
 -- Putting one entry into groups.
-use Rattle.std.proofs.Common.{arith, ℕ, ◌+◌, ◌≤◌, length, take, drop, set, ◌≡◌, ◌≢◌, ◌||◌, if◌then◌else◌, true, List}
-use Rattle.std.proofs.Common.{[], ◌∷◌, ◌++◌, map, append_assoc, is_some, unwrap_or, IsSome, Option, Some, None, Less}
-use Rattle.std.proofs.Common.{refl, sym, ap, subst, subst₂, ◌∙◌}
+use Rattle.std.proofs.Common.{arith, ℕ, ◌+◌, ◌<◌, ◌≤◌, length, take, drop, set, get_or, ◌≡◌, ◌≢◌, List, [], ◌∷◌, ◌++◌}
+use Rattle.std.proofs.Common.{map, append_assoc}
+use Rattle.std.proofs.Common.{true, option_map, unwrap_or, IsSome, Option, Some, None, Less, is_eq, refl, sym, ap}
+use Rattle.std.proofs.Common.{subst, ◌∙◌}
 use Rattle.std.proofs.lemmas.Grind.{common_steps}
+use Rattle.std.proofs.Math.Seq.{map-set_same}
 use Rattle.std.specs.Cmp.{tied_itself}
-use Rattle.std.specs.Cmp.Lexicographic.{nat_list_cmp_total, options_total}
-use Rattle.std.specs.Option.{option_or, option_to_list}
+use Rattle.std.specs.Cmp.Lexicographic.{nat_list_cmp_total}
+use Rattle.std.specs.Option.{option_or}
+use Rattle.std.specs.Ordering.{ordering_reverse}
 use Rattle.std.specs.List.{AllByRecursion, cons_option, insert, slice_get}
-use Rattle.std.proofs.lemmas.Option.{get_or_from_slice_get, slice_get_within}
 use Rattle.std.specs.List.Sorted.{IsStrictlySortedBy}
-use Rattle.std.proofs.lemmas.List.{length-take-le, map-append}
+use Rattle.std.proofs.lemmas.List.{map-append, take-append-drop}
+use Rattle.std.proofs.lemmas.List.Edits.{get_or-insert_at, length-insert}
+use Rattle.std.proofs.lemmas.List.Elements.{All-from_recursion, recursion_from_All}
+use Rattle.std.proofs.lemmas.Option.{get_or_from_slice_get, slice_get-get_or, slice_get-map, slice_get_within}
 use Rattle.mailmap_entries.specs.Entries.{Mapping, mapping_of}
 use Rattle.mailmap_entries.specs.declared.entry.Entry.{Entry}
 use Rattle.mailmap_entries.specs.Folding.{Text, folded, text_cmp}
-use Rattle.mailmap_entries.specs.Semantics.{Fields, is_accepted, key, mapping_with, new_fields, no_fields, spelling}
-use Rattle.mailmap_entries.proofs.Alike.{Alike, alike_itself, alike_joined, key_parts}
-use Rattle.mailmap_entries.proofs.Keys.{keys_total}
-use Rattle.mailmap_entries.proofs.Joined.{IsApart, alike_swapped, alike_trans, never}
-use Rattle.mailmap_entries.proofs.Parts.{all_append, all_head, all_mapped, all_tail, all_weaker}
+use Rattle.mailmap_entries.specs.Semantics.{Fields, IsNormal, is_accepted, key, key_cmp, mapping_with, new_fields}
+use Rattle.mailmap_entries.specs.Semantics.{no_fields}
+use Rattle.mailmap_entries.specs.Semantics.{spelling, value}
+use Rattle.mailmap_entries.proofs.Alike.{Alike, alike_back, alike_itself, alike_joined, first_parts, same_normal}
+use Rattle.mailmap_entries.proofs.Ascending.{after}
+use Rattle.mailmap_entries.proofs.Building.{same_text}
+use Rattle.mailmap_entries.proofs.Keys.{keys_exact, keys_total}
+use Rattle.mailmap_entries.proofs.Joined.{IsApart, alike_swapped, alike_trans}
+use Rattle.mailmap_entries.proofs.Normal.{old_email_is}
+use Rattle.mailmap_entries.proofs.Parts.{all_apply, all_map, all_tail}
 use Rattle.mailmap_batches.specs.Batches.{email_text}
-use Rattle.mailmap_batches.proofs.Respelled.{alike_respelled, spelling_first}
+use Rattle.mailmap_batches.proofs.Respelled.{alike_respelled}
 use Rattle.mailmap_tables.specs.Groups.{AreGroups, EmailGroup, IsGroup, NameGroup, email_key, listing, name_key}
 use Rattle.mailmap_tables.specs.Groups.{name_row, own_rows, rows}
-use Rattle.mailmap_tables.specs.Put.{IsPut, Lookup, with_email}
-use Rattle.mailmap_tables.proofs.Grouped.{all_rows, listing-append, listing_all, normal_of_groups, rows_accepted}
-use Rattle.mailmap_tables.proofs.Grouped.{rows_spelled}
-use Rattle.mailmap_tables.proofs.KeySearch.{lookup_found, lookup_missing, set_parts, sorted_put}
 use Rattle.mailmap_tables.specs.KeySearch.{IsFound, IsMissing}
+use Rattle.mailmap_tables.specs.Put.{IsPut, with_email}
+use Rattle.mailmap_tables.proofs.Edited.{all_set}
+use Rattle.mailmap_tables.proofs.Grouped.{groups_normal, listing-append, spelled_there}
+use Rattle.mailmap_tables.proofs.KeySearch.{all_insert, found_key, missing_inserted, set_parts, whole_parts}
 
--- ---- an entry after a list, whose last entries are apart from it
+-- ---- an entry u after a list, in which v then stands for it and for the entries mid
 
-put_between : (front mid back new : List Mapping) (m : Mapping)
-    → AllByRecursion (λ x. AllByRecursion (λ y. IsApart x y) (m ∷ [])) back → Alike (mid ++ m ∷ []) new
-    → Alike ((front ++ (mid ++ back)) ++ m ∷ []) (front ++ (new ++ back))
-put_between front mid back new m apart here =
-    let moved : Alike (mid ++ (back ++ m ∷ [])) (mid ++ m ∷ back) =
-    alike_joined mid (back ++ m ∷ []) mid (m ∷ back) (alike_itself mid) (alike_swapped back (m ∷ []) apart) in
-    let done : Alike (mid ++ m ∷ back) (new ++ back) =
-    rw append_assoc at (alike_joined (mid ++ m ∷ []) back new back here (alike_itself back)) in
-    rw (append_assoc front (mid ++ back) (m ∷ []), append_assoc mid back (m ∷ []))
-    (alike_joined front (mid ++ (back ++ m ∷ [])) front (new ++ back) (alike_itself front)
-    (alike_trans (mid ++ (back ++ m ∷ [])) (mid ++ m ∷ back) (new ++ back) moved done))
+module _ (front mid back n : List Mapping) (u v : Mapping) (parts : n ≡ front ++ v ∷ back) (normal : IsNormal n n)
+    (same : key u ≡ key v) (email : u.old_email ≡ v.old_email) where
+  -- emails that are the same without case have one spelling in a normal list
+  spelled : (e : Mapping) → e ≡ value n (key e) → e.old_email ≡ unwrap_or (spelling n (folded e.old_email)) []
+  spelled e is = ap (λ x. x.old_email) is ∙ old_email_is n n normal (key e)
 
--- ---- an email among the others
+  apart : AllByRecursion (λ y. AllByRecursion (λ x. IsApart y x) (u ∷ [])) back
+  apart =
+      let up = after keys_total keys_exact (map key front) (key v) (map key back)
+      (subst (IsStrictlySortedBy key_cmp) (ap (map key) parts ∙ map-append key front (v ∷ back)) normal.ascending) in
+      let values = all_tail (λ e. e ≡ value n (key e)) front (v ∷ back)
+      (subst (AllByRecursion (λ e. e ≡ value n (key e))) parts (recursion_from_All _ n normal.values)) in
+      let spells = λ (t : Text). unwrap_or (spelling n t) [] in
+      let alone : (y : Mapping) → key_cmp (key v) (key y) ≡ Less → y ≡ value n (key y) → IsApart y u = λ y less is. (
+        ap (λ k. is_eq (key_cmp (key y) k)) same
+            ∙ ap is_eq (keys_total.antisymm (key y) (key v) ∙ ap ordering_reverse less),
+        λ alike. spelled y is ∙ ap spells ((same_text (folded y.old_email) (folded u.old_email)).0 alike)
+            ∙ ap (λ t. spells (folded t)) email ∙ sym (email ∙ spelled v values.0),
+      ) in
+      all_apply _ _ _ (λ y less is. (alone y less is, tt)) back
+      (all_map key (λ k. key_cmp (key v) k ≡ Less) back up) values.1
 
--- the rows of an email are apart from entries for lower ones
-rows_apart : (g : EmailGroup) (js : List Mapping)
-    → AllByRecursion (λ y. text_cmp (folded y.old_email) (email_key g) ≡ Less) js
-    → AllByRecursion (λ x. AllByRecursion (λ y. IsApart x y) js) (rows g)
-rows_apart g js below = grind (arith, common_steps, all_weaker, rows_spelled, nat_list_cmp_total)
+  put_among : Alike (mid ++ u ∷ []) (v ∷ []) → Alike ((front ++ (mid ++ back)) ++ u ∷ []) n
+  put_among here =
+      let moved = alike_joined mid (back ++ u ∷ []) mid (u ∷ back) (alike_itself mid)
+      (alike_swapped back (u ∷ []) apart) in
+      let done : Alike (mid ++ u ∷ back) (v ∷ back) =
+      rw append_assoc at (alike_joined (mid ++ u ∷ []) back (v ∷ []) back here (alike_itself back)) in
+      rw (parts, append_assoc front (mid ++ back) (u ∷ []), append_assoc mid back (u ∷ []))
+      (alike_joined front (mid ++ (back ++ u ∷ [])) front (v ∷ back) (alike_itself front)
+      (alike_trans (mid ++ (back ++ u ∷ [])) (mid ++ u ∷ back) (v ∷ back) moved done))
 
-abbrev pub found_rows : Option EmailGroup → List Mapping
+-- ---- an entry in groups, whose email has the rows h then
+
+abbrev found_rows : Option EmailGroup → List Mapping
 found_rows None = []
 found_rows (Some g) = rows g
 
--- an accepted entry has an effect
-says_something : (h : List Mapping) (m : Mapping) (n : List Mapping) → is_accepted m ≡ true → Alike (h ++ m ∷ []) n
-    → n ≢ []
-says_something h m n good alike none =
-    let same = alike.keys (key m) in
-    grind (arith, common_steps, same, key_parts (key m) h (m ∷ []), tied_itself keys_total (key m))
+put_in_groups : (before after : List EmailGroup) (o : Option EmailGroup) (h : EmailGroup)
+    (front mid back : List Mapping) (u v : Mapping) → AreGroups (before ++ h ∷ after)
+    → found_rows o ≡ front ++ (mid ++ back) → rows h ≡ front ++ v ∷ back → key u ≡ key v → u.old_email ≡ v.old_email
+    → Alike (mid ++ u ∷ []) (v ∷ [])
+    → IsNormal (listing (before ++ cons_option o after) ++ u ∷ []) (listing (before ++ h ∷ after))
+put_in_groups before after o h front mid back u v are old new same email here =
+    let n = listing (before ++ h ∷ after) in
+    let lower = listing before in
+    let higher = listing after in
+    let parts : n ≡ (lower ++ front) ++ v ∷ (back ++ higher) =
+    rw (listing-append before (h ∷ after), new, append_assoc lower front _)
+    (ap (λ l. lower ++ l) (append_assoc front (v ∷ back) higher)) in
+    let whole : listing (before ++ cons_option o after) ≡ (lower ++ front) ++ (mid ++ (back ++ higher)) =
+    rw (listing-append before (cons_option o after), parted o, old, append_assoc lower front _)
+    (ap (λ l. lower ++ l)
+    (append_assoc front (mid ++ back) higher ∙ ap (λ l. front ++ l) (append_assoc mid back higher))) in
+    let normal = groups_normal (before ++ h ∷ after) are in
+    same_normal n _ n (alike_back _ n
+    (rw whole (put_among (lower ++ front) mid (back ++ higher) n u v parts normal same email here))) normal
+  where
+    parted : (o : Option EmailGroup) → listing (cons_option o after) ≡ found_rows o ++ listing after
+    parted o = grind arith
 
-module _ (before after : List EmailGroup) where
-  parted : (o : Option EmailGroup) → listing (cons_option o after) ≡ found_rows o ++ listing after
-  parted o = grind arith
-
-  around : (o : Option EmailGroup) → AllByRecursion IsGroup (before ++ cons_option o after)
-      → AllByRecursion IsGroup before × AllByRecursion IsGroup after
-  around o each = grind (arith, all_head, all_tail)
-
-found_between : (before after : List EmailGroup) (h : EmailGroup) (k : Text) → email_key h ≡ k
-    → IsFound email_key k (before ++ h ∷ after) (length before)
-found_between [] after h k is = grind (arith, common_steps, tied_itself nat_list_cmp_total)
-found_between (x ∷ before) after h k is = found_between before after h k is
-
-module _ (m : Mapping) {gs before after : List EmailGroup} {found : Option EmailGroup} (are : AreGroups gs)
-    (good : is_accepted m ≡ true) (lookup : Lookup email_key (email_text m) gs before found after) where
-  pub put_done : (h : EmailGroup) → email_key h ≡ email_text m → IsStrictlySortedBy text_cmp (map name_key h.names)
-      → Alike (found_rows found ++ m ∷ []) (rows h) → IsPut m gs (length before) (before ++ h ∷ after)
-  put_done h same up alike =
-      let each = around before after found (rw lookup.whole at are.each) in
-      let made : AreGroups (before ++ h ∷ after) = record {
-        ascending = sorted_put lookup are.ascending h same;
-        each = all_append IsGroup before (h ∷ after) each.0 (
-          record { ascending = up; says = says_something (found_rows found) m (rows h) good alike },
-          each.1,
-        );
-      } in
-      let old : listing gs ≡ listing before ++ (found_rows found ++ listing after) =
-      rw (lookup.whole, listing-append before (cons_option found after), parted before after found) in
-      let apart = listing_all _ after (all_weaker after (λ g less. rows_apart g (m ∷ []) (less, tt)) lookup.high) in
-      record {
-        groups = made;
-        normal = normal_of_groups (listing gs ++ m ∷ []) (before ++ h ∷ after) made
-            (rw (old, listing-append before (h ∷ after))
-            (put_between (listing before) (found_rows found) (listing after) (rows h) m apart alike));
-        found = found_between before after h (email_text m) same;
-      }
-
--- ---- a new email
+some : (front : List Mapping) (v : Mapping) (back : List Mapping) → front ++ v ∷ back ≢ []
+some [] v back none = cc
+some (x ∷ front) v back none = cc
 
 -- what an entry says about a name
 abbrev pub said : Text → Mapping → NameGroup
@@ -120,41 +125,9 @@ pub rows_of_name : (m : Mapping) (old_name : Text) → m.old_name ≡ Some old_n
     → rows (record { old_email = m.old_email; own = no_fields; names = said old_name m ∷ [] }) ≡ m ∷ []
 rows_of_name m old_name is some = grind (arith, some_or)
 
--- ---- an email that is there
-
-module _ (m : Mapping) {gs before after : List EmailGroup} {g : EmailGroup} (are : AreGroups gs)
-    (good : is_accepted m ≡ true) (lookup : Lookup email_key (email_text m) gs before (Some g) after) where
-  abbrev spelt : Mapping
-  spelt = with_email g.old_email m
-
-  pub group_is : IsGroup g
-  group_is = (all_tail IsGroup before (g ∷ after) (rw lookup.whole at are.each)).0
-
-  same : email_key g ≡ email_text m
-  same = lookup.same.0
-
-  -- the entry can be spelled as the email is
-  spelled : spelling (rows g ++ m ∷ []) (email_text m) ≡ Some g.old_email
-  spelled = at (rows g) group_is.says (rows_spelled g) (rows_accepted g)
-    where
-      at : (rs : List Mapping) → rs ≢ [] → AllByRecursion (λ r. r.old_email ≡ g.old_email) rs
-          → AllByRecursion (λ r. is_accepted r ≡ true) rs → spelling (rs ++ m ∷ []) (email_text m) ≡ Some g.old_email
-      at [] some is accepted = absurd (some refl)
-      at (r ∷ rs) some is accepted = rw (← same, ← is.0) (spelling_first r (rs ++ m ∷ []) accepted.0)
-
-  respelt : Alike (rows g ++ m ∷ []) (rows g ++ spelt ∷ [])
-  respelt = subst (λ o. Alike (rows g ++ m ∷ []) (rows g ++ record m { old_email = unwrap_or o [] } ∷ [])) spelled
-      (alike_respelled (rows g) (m ∷ []) (m ∷ []) (λ k. refl))
-
-  put_there : (h : EmailGroup) → h.old_email ≡ g.old_email → IsStrictlySortedBy text_cmp (map name_key h.names)
-      → Alike (rows g ++ spelt ∷ []) (rows h) → IsPut m gs (length before) (before ++ h ∷ after)
-  put_there h is up alike = put_done m are good lookup h (ap folded is ∙ same) up
-      (alike_trans (rows g ++ m ∷ []) (rows g ++ spelt ∷ []) (rows h) respelt alike)
-
--- ---- the fields of an email
-
-abbrev own_of : Text → Fields → List Mapping
-own_of e f = if is_some f.name || is_some f.email then mapping_with f None e ∷ [] else []
+-- an entry with an old name has a new email
+pub named_paired : (e : Entry) (x : Text) → (mapping_of e).old_name ≡ Some x → IsSome (mapping_of e).new_email
+named_paired e x is = grind (arith, common_steps)
 
 -- each field that is given, otherwise the existing one
 abbrev pub given_or : Fields → Fields → Fields
@@ -163,117 +136,121 @@ given_or given existing = record {
   email = option_or given.email existing.email;
 }
 
-own_once : (e : Text) (f : Fields) (u : Mapping) → u.old_name ≡ None → u.old_email ≡ e → is_accepted u ≡ true
-    → Alike (own_of e f ++ u ∷ []) (own_of e (given_or (new_fields u) f))
-own_once e f u plain same good = grind (arith, common_steps)
-
-unnamed_apart : (e : Text) (n : NameGroup) (u : Mapping) → u.old_name ≡ None → u.old_email ≡ e
-    → IsApart (name_row e n) u
-unnamed_apart e n u plain same = grind (arith, never)
-
--- ---- a name of an email
-
--- the name as it is stored already, if it is
-abbrev pub kept_name : Option NameGroup → NameGroup → NameGroup
-kept_name None n = n
-kept_name (Some k) n = record n { old_name = k.old_name }
-
--- the row of a name is apart from entries for lower ones
-name_apart : (e old_name : Text) (k : NameGroup) (m : Mapping) → m.old_name ≡ Some old_name
-    → text_cmp (folded old_name) (name_key k) ≡ Less → IsApart (name_row e k) (with_email e m)
-name_apart e old_name k m is less = grind (arith, common_steps, options_total, nat_list_cmp_total, never)
+own_once : (g : EmailGroup) (u : Mapping) → u.old_name ≡ None → u.old_email ≡ g.old_email → is_accepted u ≡ true
+    → Alike (own_rows g ++ u ∷ []) (mapping_with (given_or (new_fields u) g.own) None g.old_email ∷ [])
+own_once g u plain same good = grind (arith, common_steps)
 
 -- an entry replaces the fields of a name
 name_combined : (e old_name : Text) (k : NameGroup) (m : Mapping) → m.old_name ≡ Some old_name → IsSome m.new_email
     → name_key k ≡ folded old_name → Alike (name_row e k ∷ with_email e m ∷ []) (name_row e (said k.old_name m) ∷ [])
 name_combined e old_name k m is some same = grind (arith, common_steps)
 
-pub put_name : (m : Mapping) {gs before after : List EmailGroup} {g : EmailGroup} (old_name : Text)
-    {names_before names_after : List NameGroup} {found : Option NameGroup} → AreGroups gs → is_accepted m ≡ true
-    → Lookup email_key (email_text m) gs before (Some g) after → m.old_name ≡ Some old_name → IsSome m.new_email
-    → Lookup name_key (folded old_name) g.names names_before found names_after
-    → IsPut m gs (length before) (before ++ record g {
-      names = names_before ++ kept_name found (said old_name m) ∷ names_after;
-    } ∷ after)
-put_name m {g = g} old_name {names_before = front} {names_after = back} {found = found} are good lookup is some names =
-    let e = g.old_email in
-    let u = with_email e m in
-    let row = name_row e in
-    let n = kept_name found (said old_name m) in
-    let h : EmailGroup = record g { names = front ++ n ∷ back } in
-    let head = own_rows g ++ map row front in
-    let parts = map-append row front (cons_option found back) in
-    let old : rows g ≡ head ++ (name_rows found ++ map row back) =
-    rw (names.whole, parts, parted found, append_assoc (own_rows g) (map row front) _) in
-    let new : rows h ≡ head ++ (row n ∷ map row back) =
-    rw (map-append row front (n ∷ back), append_assoc (own_rows g) (map row front) (row n ∷ map row back)) in
-    put_there m are good lookup h refl (sorted_put names (group_is m are good lookup).ascending n (kept_key found names))
-    (rw (old, new) (put_between head (name_rows found) (map row back) (row n ∷ []) u
-    (all_mapped row _ back (all_weaker back (λ k less. (name_apart e old_name k m is less, tt)) names.high))
-    (here found names)))
-  where
-    name_rows : Option NameGroup → List Mapping
-    name_rows o = map (name_row g.old_email) (option_to_list o)
-
-    parted : (o : Option NameGroup) → map (name_row g.old_email) (cons_option o back)
-        ≡ name_rows o ++ map (name_row g.old_email) back
-    parted o = grind arith
-
-    kept_key : (o : Option NameGroup) → Lookup name_key (folded old_name) g.names front o back
-        → name_key (kept_name o (said old_name m)) ≡ folded old_name
-    kept_key o l = grind arith
-
-    here : (o : Option NameGroup) → Lookup name_key (folded old_name) g.names front o back
-        → Alike (name_rows o ++ with_email g.old_email m ∷ [])
-        (name_row g.old_email (kept_name o (said old_name m)) ∷ [])
-    here o l = let same = l.same in grind (arith, said_row, name_combined, alike_itself)
-
--- an entry with an old name has a new email
-pub named_paired : (e : Entry) (x : Text) → (mapping_of e).old_name ≡ Some x → IsSome (mapping_of e).new_email
-named_paired e x is = grind (arith, common_steps)
-
--- ---- the same, by the indices that searches find
-
-module _ (m : Mapping) {gs : List EmailGroup} (are : AreGroups gs) (good : is_accepted m ≡ true) (i : ℕ) where
+module _ (m : Mapping) {gs : List EmailGroup} (are : AreGroups gs) (i : ℕ) where
   pub put_missing : i ≤ length gs → IsMissing email_key (email_text m) gs i → (h : EmailGroup)
       → h.old_email ≡ m.old_email → IsStrictlySortedBy text_cmp (map name_key h.names) → rows h ≡ m ∷ []
       → IsPut m gs i (insert gs i h)
-  put_missing le missing h same up is = subst (λ n. IsPut m gs n (insert gs i h)) (length-take-le i gs le)
-      (put_done m are good (lookup_missing email_key (email_text m) gs i le missing) h
-      (ap folded same) up (subst (Alike (m ∷ [])) (sym is) (alike_itself (m ∷ []))))
+  put_missing le missing h same up is =
+      let made : AreGroups (insert gs i h) = record {
+        ascending = missing_inserted email_key (email_text m) gs i h (ap folded same) are.ascending le missing;
+        each = all_insert IsGroup gs i h are.each (record { ascending = up; says = λ none. cc (is, none) });
+      } in
+      let compare = λ (g : EmailGroup). text_cmp (email_key g) (email_text m) in
+      let within : i < length (insert gs i h) = omega (arith, length-insert gs i h le) in
+      record {
+        groups = made;
+        normal = rw (take-append-drop i gs) at (put_in_groups (take i gs) (drop i gs) None h [] [] [] m m made refl is
+            refl refl (alike_itself (m ∷ [])));
+        found = slice_get-map compare (insert gs i h) i ∙ ap (option_map compare)
+            (slice_get-get_or (insert gs i h) i h within ∙ ap (λ x. Some x) (get_or-insert_at gs i h h le))
+            ∙ ap (λ t. Some (text_cmp (folded t) (email_text m))) same
+            ∙ ap (λ o. Some o) (tied_itself nat_list_cmp_total (email_text m));
+      }
 
   module _ (found : IsFound email_key (email_text m) gs i) (g : EmailGroup) (read : slice_get gs i ≡ Some g) where
-    lookup : Lookup email_key (email_text m) gs (take i gs) (Some g) (drop (i + 1) gs)
-    lookup =
-        lookup_found email_key (email_text m) gs i are.ascending found g (sym (get_or_from_slice_get gs i g g read))
+    within : i < length gs
+    within = slice_get_within gs i g read
+
+    here : (d : EmailGroup) → get_or gs i d ≡ g
+    here d = get_or_from_slice_get gs i g d read
+
+    same_email : email_key g ≡ email_text m
+    same_email = found_key email_key (email_text m) gs i found g (sym (here g))
+
+    -- the entry, spelled as the email is
+    abbrev spelt : Mapping
+    spelt = with_email g.old_email m
+
+    respelt : Alike (listing gs ++ m ∷ []) (listing gs ++ spelt ∷ [])
+    respelt =
+        let there : spelling (listing gs ++ m ∷ []) (email_text m) ≡ Some g.old_email =
+        first_parts (λ e. e.old_email) _ (listing gs) (m ∷ [])
+        ∙ ap (λ o. option_or o (spelling (m ∷ []) (email_text m)))
+        (ap (spelling (listing gs)) (sym same_email) ∙ spelled_there gs are i g within (sym (here g))) in
+        subst (λ o. Alike (listing gs ++ m ∷ []) (listing gs ++ record m { old_email = unwrap_or o [] } ∷ [])) there
+        (alike_respelled (listing gs) (m ∷ []) (m ∷ []) (λ k. refl))
 
     pub names_ascend : IsStrictlySortedBy text_cmp (map name_key g.names)
-    names_ascend = (group_is m are good lookup).ascending
+    names_ascend = (subst IsGroup (here g) (All-from_recursion IsGroup gs are.each i g within)).ascending
 
-    put_at : (h : EmailGroup) → IsPut m gs (length (take i gs)) (take i gs ++ h ∷ drop (i + 1) gs)
-        → IsPut m gs i (set gs i h)
-    put_at h put = let within = slice_get_within gs i g read in subst₂ (IsPut m gs) (length-take-le i gs
-        (omega (arith, within))) (sym (set_parts gs i h within)) put
+    put_there : (h : EmailGroup) → h.old_email ≡ g.old_email → IsStrictlySortedBy text_cmp (map name_key h.names)
+        → (front mid back : List Mapping) (v : Mapping) → rows g ≡ front ++ (mid ++ back) → rows h ≡ front ++ v ∷ back
+        → key spelt ≡ key v → v.old_email ≡ g.old_email → Alike (mid ++ spelt ∷ []) (v ∷ []) → IsPut m gs i (set gs i h)
+    put_there h email up front mid back v old new same email_is alike =
+        let emails : map email_key (set gs i h) ≡ map email_key gs =
+        map-set_same email_key gs i h g (ap folded email ∙ sym (ap email_key (here g))) in
+        let compare = λ (x : EmailGroup). text_cmp (email_key x) (email_text m) in
+        let made : AreGroups (set gs i h) = record {
+          ascending = rw emails are.ascending;
+          each = all_set IsGroup gs i h are.each
+              (record { ascending = up; says = λ none. some front v back (sym new ∙ none) });
+        } in
+        let parts = set_parts gs i h within in
+        let whole = whole_parts gs i g within (sym (here g)) in
+        record {
+          groups = made;
+          normal = same_normal _ _ _ (alike_back _ _ respelt)
+              (rw (← whole, ← parts) at (put_in_groups (take i gs) (drop (i + 1) gs) (Some g) h front mid back spelt v
+              (subst AreGroups parts made) old new same (sym email_is) alike));
+          found = rw (map-set_same compare gs i h g
+              (ap (λ t. text_cmp t (email_text m)) (ap folded email ∙ sym (ap email_key (here g))))) found;
+        }
 
-    pub fields_put : m.old_name ≡ None → IsPut m gs i (set gs i (record g { own = given_or (new_fields m) g.own }))
-    fields_put plain =
-        let u = with_email g.old_email m in
+    pub fields_put : is_accepted m ≡ true → m.old_name ≡ None
+        → IsPut m gs i (set gs i (record g { own = given_or (new_fields m) g.own }))
+    fields_put good plain =
         let h : EmailGroup = record g { own = given_or (new_fields m) g.own } in
-        put_at h (put_there m are good lookup h refl names_ascend
-        (put_between [] (own_rows g) (map (name_row g.old_email) g.names) (own_rows h) u
-        (all_rows _ g.old_email g.names (λ n. (unnamed_apart g.old_email n u plain refl, tt)))
-        (own_once g.old_email g.own u plain refl good)))
+        let v = mapping_with h.own None g.old_email in
+        put_there h refl names_ascend [] (own_rows g) (map (name_row g.old_email) g.names) v refl
+        (grind (arith, common_steps)) (grind arith) refl (own_once g spelt plain refl good)
 
     module _ (old_name : Text) (is : m.old_name ≡ Some old_name) (some : IsSome m.new_email) (j : ℕ) where
+      abbrev row : NameGroup → Mapping
+      row = name_row g.old_email
+
       pub name_inserted : j ≤ length g.names → IsMissing name_key (folded old_name) g.names j
           → IsPut m gs i (set gs i (record g { names = insert g.names j (said old_name m) }))
-      name_inserted le missing = put_at (record g { names = insert g.names j (said old_name m) })
-          (put_name m old_name are good lookup is some (lookup_missing name_key (folded old_name) g.names j le missing))
+      name_inserted le missing =
+          let n = said old_name m in
+          let front = own_rows g ++ map row (take j g.names) in
+          put_there (record g { names = insert g.names j n }) refl
+          (missing_inserted name_key (folded old_name) g.names j n refl names_ascend le missing)
+          front [] (map row (drop j g.names)) spelt (rw append_assoc (ap (λ l. own_rows g ++ l)
+          (ap (map row) (sym (take-append-drop j g.names)) ∙ map-append row (take j g.names) (drop j g.names))))
+          (rw (append_assoc, map-append, said_row m old_name is some g.old_email) refl) refl refl
+          (alike_itself (spelt ∷ []))
 
       pub name_replaced : IsFound name_key (folded old_name) g.names j → (k : NameGroup) → slice_get g.names j ≡ Some k
-          → IsPut m gs i (set gs i (record g { names = set g.names j (record (said old_name m) { old_name = k.old_name }) }))
-      name_replaced here k at =
-          let n : NameGroup = record (said old_name m) { old_name = k.old_name } in
-          put_at (record g { names = set g.names j n }) (rw (set_parts g.names j n (slice_get_within g.names j k at))
-          (put_name m old_name are good lookup is some (lookup_found name_key (folded old_name) g.names j names_ascend here
-          k (sym (get_or_from_slice_get g.names j k k at)))))
+          → IsPut m gs i (set gs i (record g { names = set g.names j (said k.old_name m) }))
+      name_replaced found k at =
+          let n : NameGroup = said k.old_name m in
+          let front = own_rows g ++ map row (take j g.names) in
+          let here : get_or g.names j k ≡ k = get_or_from_slice_get g.names j k k at in
+          let within = slice_get_within g.names j k at in
+          let whole = whole_parts g.names j k within (sym here) in
+          let parts = set_parts g.names j n within in
+          let same_name = found_key name_key (folded old_name) g.names j found k (sym here) in
+          put_there (record g { names = set g.names j n }) refl
+          (rw (map-set_same name_key g.names j n k (sym (ap name_key here))) names_ascend)
+          front (row k ∷ []) (map row (drop (j + 1) g.names)) (row n)
+          (grind (arith, append_assoc, map-append, whole)) (grind (arith, append_assoc, map-append, parts))
+          (grind (arith, common_steps)) refl (name_combined g.old_email old_name k m is some same_name)

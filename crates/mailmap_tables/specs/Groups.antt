@@ -57,6 +57,10 @@ pub record Contents : Type 0 where
   pub pool : Text
   pub groups : List EmailGroup
 
+-- the number of names of all emails
+abbrev pub name_total : List EmailGroup → ℕ
+name_total gs = sum_by (λ g. length g.names) gs
+
 -- the number of emails and names
 abbrev pub row_count : Contents → ℕ
-row_count t = length t.groups + sum_by (λ g. length g.names) t.groups
+row_count t = length t.groups + name_total t.groups

@@ -1,13 +1,13 @@
 -- Texts in a pool of bytes, and tables whose rows say where their texts are in it.
 use Rattle.std.specs.Prelude.{◌≡◌, ◌<◌, ◌≤◌, ◌+◌, ◌^◌, ◌++◌, ℕ, List, [], Option, Some, None, IsSome, map, take, drop}
-use Rattle.std.specs.Prelude.{length, slice_set, sum_by, unwrap_or}
+use Rattle.std.specs.Prelude.{length, slice_set, unwrap_or}
 use Rattle.std.specs.Option.{option_map, ForSome}
 use Rattle.std.specs.List.{AllByRecursion}
-use Rattle.mailmap_entries.specs.Folding.{Text, folded}
+use Rattle.mailmap_entries.specs.Folding.{Text}
 use Rattle.mailmap_entries.specs.Prefixes.{key_prefix}
 use Rattle.mailmap_entries.specs.Semantics.{Fields}
 use Rattle.mailmap_entries.specs.Entries.{Mapping}
-use Rattle.mailmap_tables.specs.Groups.{Contents, EmailGroup, NameGroup, listing, name_row}
+use Rattle.mailmap_tables.specs.Groups.{Contents, EmailGroup, NameGroup, email_key, listing, name_row, name_total}
 use Rattle.mailmap_tables.specs.RowTexts.{old_span, name_span, email_span}
 use Rattle.mailmap_tables.specs.declared.texts.TheConstants.{NO_TEXT}
 use Rattle.mailmap_tables.specs.declared.texts.Source.{Source}
@@ -81,17 +81,13 @@ abbrev pub RowInPool : Text → Row → Type 0
 RowInPool pool r = RowsInPool pool r.texts r.names
 
 -- the key prefix of an email
-abbrev pub prefix_of : Text → Row → ℕ
-prefix_of pool r = key_prefix 16 (folded (spelled pool (old_span r.texts)))
-
--- the number of names of all emails
-abbrev pub name_total : List Row → ℕ
-name_total rows = sum_by (λ r. length r.names) rows
+abbrev pub prefix_of : EmailGroup → ℕ
+prefix_of g = key_prefix 16 (email_key g)
 
 pub record AreTables (pool : Text) (rows : List Row) (prefixes : List ℕ) (name_count : ℕ) : Type 0 where
   pub lie : AllByRecursion (RowInPool pool) rows
-  pub prefix_each : prefixes ≡ map (prefix_of pool) rows
-  pub counted : name_count ≡ name_total rows
+  pub prefix_each : prefixes ≡ map prefix_of (map (row_group pool) rows)
+  pub counted : name_count ≡ name_total (map (row_group pool) rows)
   pub few : name_count < 2 ^ 63
 
 abbrev pub contents : Text → List Row → Contents

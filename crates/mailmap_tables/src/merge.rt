@@ -96,7 +96,7 @@ fn accepted_of<'a, I: Iterator<Item = Entry<'a>> + Drop>(
     Ok(batch)
 }
 
-// Whether the entry is accepted, which means that it changes something.
+// Whether the entry is accepted: it has a new name or a new email.
 fn has_new_name_or_email(entry: &Entry) -> bool
     ensures { result ≡ is_accepted (mapping_of entry.now) }
 {
@@ -104,6 +104,7 @@ fn has_new_name_or_email(entry: &Entry) -> bool
 }
 
 // New tables with these entries after those of the existing ones.
+#[tactic(auto, using(crate::proofs::Grouped::listed_accepted))]
 fn joined<'a>(
     alloc: Global,
     existing_tables: &'a Tables,
@@ -204,8 +205,8 @@ fn put_group(
     Ok(())
 }
 
-// One entry for those without an old name, which come first, and their number. If there are none, the first entry. So
-// the texts that many lines for an email leave as they are aren't copied for each line.
+// The entries without an old name, which come first, as one, and their number; if there are none, the first entry and 1.
+// Put one by one, each would copy the texts that it leaves as they are into the pool again.
 fn combined_start<'a>(group: &[IndexedEntry<'_, 'a>]) -> (Entry<'a>, usize)
     requires some { 0 < length group.now }
     requires accepted { All (λ p. is_accepted (mapping_at p) ≡ true) group.now }

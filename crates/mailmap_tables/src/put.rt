@@ -11,15 +11,18 @@ ghost use Rattle.mailmap_tables.specs.Put.{IsPut, with_email};
 ghost use Rattle.mailmap_tables.specs.Pool.{IsRow, IsWithin, LiesIn, spelled, text_of};
 
 use crate::rows::{EmailRow, NameRow};
-use crate::search::{find_email_last_first, find_name_last_first};
+use crate::search::{EmailProbe, NameProbe, search_last_first};
 use crate::tables::Tables;
 use crate::texts::{RowTexts, Source, Span};
 use mailmap_entries::Entry;
+use mailmap_entries::fold::Steps;
 use mailmap_entries::fold::prefix::Prefixed;
 use std::alloc::AllocError;
 
 impl Tables {
-    /// Merges an accepted entry into the tables, with this spelling of its email, and returns the index of the email.
+    /// Merges an accepted entry into the tables, whose old email is taken to be `email`, and returns the index of the
+    /// email. If the email is there already, its spelling stays.
+    ///
     /// Without an old name, its new fields override those of its email. With an old name, its fields replace both
     /// fields of that name, or the name is added. An email that isn't there is added.
     pub(crate) fn put(&mut self, email: &[u8], entry: &Entry<'_>) -> Result<usize, AllocError>
@@ -30,7 +33,13 @@ impl Tables {
         ensures err { OnErr result (self.new.groups ≡ self.old.groups) }
     {
         let email = Prefixed::new(email);
-        match find_email_last_first(&self.view(), email) {
+        let view = self.view();
+        let mut probe = EmailProbe {
+            tables: &view,
+            email,
+            steps: Steps::new(),
+        };
+        match search_last_first(view.email_count(), &mut probe) {
             Ok(index) => {
                 self.put_at(index, email.text, entry)?;
                 Ok(index)
@@ -42,7 +51,8 @@ impl Tables {
         }
     }
 
-    /// Does the same if the email is known to be at this index.
+    /// Does the same if the email is known to be at this index. Only clauses use `email`.
+    #[tactic(auto, using(crate::proofs::KeySearch::reads))]
     pub(crate) fn put_at(
         &mut self,
         index: usize,
@@ -56,9 +66,35 @@ impl Tables {
             self.new.groups) }
         ensures err { OnErr result (self.new.groups ≡ self.old.groups) }
     {
-        match entry.old_name() {
-            None => self.put_fields(index, email, entry),
-            Some(old_name) => self.put_name(index, email, old_name, entry),
+        let view = self.view();
+        let (own, names) = view.email(index);
+        let Some(old_name) = entry.old_name() else {
+            let (new_name, new_email) = view.fields(own);
+            let row = self.append_row(
+                Source::Pool(own.old()),
+                given_or(entry.new_name(), new_name),
+                given_or(entry.new_email(), new_email),
+            )?;
+            self.replace_texts(index, row);
+            return Ok(());
+        };
+        let mut probe = NameProbe {
+            tables: &view,
+            names,
+            name: old_name,
+            steps: Steps::new(),
+        };
+        match search_last_first(names.len(), &mut probe) {
+            Ok(place) => {
+                let existing = names[place];
+                let row = self.append_entry(Source::Pool(existing.old()), entry)?;
+                self.replace_name(index, place, row);
+                Ok(())
+            }
+            Err(place) => {
+                let row = self.append_entry(Source::Given(old_name), entry)?;
+                self.insert_name(index, place, row)
+            }
         }
     }
 
@@ -90,66 +126,6 @@ impl Tables {
                 let name = self.append_entry(Source::Given(old_name), entry)?;
                 let names = Vec::from_slice(alloc, &[name])?;
                 self.insert_email(index, email.prefix, EmailRow { texts, names })
-            }
-        }
-    }
-
-    // Overrides the fields of an email by those of an entry for it.
-    fn put_fields(
-        &mut self,
-        index: usize,
-        email: &[u8],
-        entry: &Entry<'_>,
-    ) -> Result<(), AllocError>
-        requires groups { AreGroups self.old.groups }
-        requires within { index < length self.old.groups }
-        requires found { IsFound email_key (folded email.now) self.old.groups index }
-        requires accepted { is_accepted (mapping_of entry.now) ≡ true }
-        requires unnamed { (mapping_of entry.now).old_name ≡ None }
-        ensures ok { OnOk result (IsPut (with_email email.now (mapping_of entry.now)) self.old.groups index
-            self.new.groups) }
-        ensures err { OnErr result (self.new.groups ≡ self.old.groups) }
-    {
-        let (existing, _) = self.view().email(index);
-        let (new_name, new_email) = self.view().fields(existing);
-        let row = self.append_row(
-            Source::Pool(existing.old()),
-            given_or(entry.new_name(), new_name),
-            given_or(entry.new_email(), new_email),
-        )?;
-        self.replace_texts(index, row);
-        Ok(())
-    }
-
-    // Adds a name to the email of an entry, or replaces the fields of a name that it has.
-    fn put_name(
-        &mut self,
-        index: usize,
-        email: &[u8],
-        old_name: &[u8],
-        entry: &Entry<'_>,
-    ) -> Result<(), AllocError>
-        requires groups { AreGroups self.old.groups }
-        requires within { index < length self.old.groups }
-        requires found { IsFound email_key (folded email.now) self.old.groups index }
-        requires accepted { is_accepted (mapping_of entry.now) ≡ true }
-        requires named { (mapping_of entry.now).old_name ≡ Some old_name.now }
-        ensures ok { OnOk result (IsPut (with_email email.now (mapping_of entry.now)) self.old.groups index
-            self.new.groups) }
-        ensures err { OnErr result (self.new.groups ≡ self.old.groups) }
-    {
-        let view = self.view();
-        let (_, names) = view.email(index);
-        match find_name_last_first(&view, names, old_name) {
-            Ok(place) => {
-                let existing = names[place];
-                let row = self.append_entry(Source::Pool(existing.old()), entry)?;
-                self.replace_name(index, place, row);
-                Ok(())
-            }
-            Err(place) => {
-                let row = self.append_entry(Source::Given(old_name), entry)?;
-                self.insert_name(index, place, row)
             }
         }
     }

@@ -16,86 +16,51 @@ use mailmap_entries::fold::{Probe, Steps, search};
 use std::cmp::Ordering;
 use std::mem;
 
-// The emails of tables, compared to one email.
+/// The emails of tables, compared to one email.
 #[derive(Drop)]
-struct EmailProbe<'a> {
-    tables: &'a View<'a>,
-    email: Prefixed<'a>,
-    steps: Steps,
+pub(crate) struct EmailProbe<'t, 'a, 'e> {
+    pub tables: &'t View<'a>,
+    pub email: Prefixed<'e>,
+    pub steps: Steps,
 }
 
-impl Probe for EmailProbe<'_> {
+impl Probe for EmailProbe<'_, '_, '_> {
     ghost answers = { λ p. compared email_key (folded p.email.text.now) p.tables.now.groups };
 
     ghost asked = { λ p. p.steps };
 
+    #[tactic(auto, using(crate::proofs::KeySearch::reads))]
     fn ask(&mut self, index: usize) -> Ordering {
         let known = self.tables.email_text(index);
         self.steps.compare_prefixed(known, self.email)
     }
 }
 
-// The names of an email, compared to one name.
+/// The names of an email, compared to one name.
 #[derive(Drop)]
-struct NameProbe<'a> {
-    tables: &'a View<'a>,
-    names: &'a [NameRow],
-    name: &'a [u8],
-    steps: Steps,
+pub(crate) struct NameProbe<'t, 'a, 'n> {
+    pub tables: &'t View<'a>,
+    pub names: &'a [NameRow],
+    pub name: &'n [u8],
+    pub steps: Steps,
     ghost in_pool: { All (λ r. LiesIn (length tables.now.pool) (old_span r)) names.now },
 }
 
-impl Probe for NameProbe<'_> {
+impl Probe for NameProbe<'_, '_, '_> {
     ghost answers = { λ p. compared name_key (folded p.name.now) (map (name_group p.tables.now.pool) p.names.now) };
 
     ghost asked = { λ p. p.steps };
 
+    #[tactic(auto, using(crate::proofs::KeySearch::reads))]
     fn ask(&mut self, index: usize) -> Ordering {
         let row = self.names[index];
         self.steps.compare(self.tables.text(row.old()), self.name)
     }
 }
 
-/// The index of an email, or the index to insert it at. Compares to the last email first: tables are built of entries in
-/// ascending order, so that each entry's email is the last one or comes after it.
-pub(crate) fn find_email_last_first(tables: &View<'_>, email: Prefixed<'_>) -> Result<usize, usize>
-    requires { IsStrictlySortedBy text_cmp (map email_key tables.now.groups) }
-    ensures within { IsSearchInRange result (length tables.now.groups) }
-    ensures found { IfOk result (IsFound email_key (folded email.entry.text.now) tables.now.groups) }
-    ensures missing { IfErr result (IsMissing email_key (folded email.entry.text.now) tables.now.groups) }
-{
-    let mut probe = EmailProbe {
-        tables,
-        email,
-        steps: Steps::new(),
-    };
-    search_last_first(tables.email_count(), &mut probe)
-}
-
-/// The index of a name among the names of an email, or the index to insert it at. Compares to the last name first.
-pub(crate) fn find_name_last_first(
-    tables: &View<'_>,
-    names: &[NameRow],
-    name: &[u8],
-) -> Result<usize, usize>
-    requires in_pool { AllByRecursion (NameInPool (length tables.now.pool)) names.now }
-    requires ascending { IsStrictlySortedBy text_cmp
-        (map name_key (map (name_group tables.now.pool) names.now)) }
-    ensures within { IsSearchInRange result (length names.now) }
-    ensures found { IfOk result (IsFound name_key (folded name.now) (map (name_group tables.now.pool) names.now)) }
-    ensures missing { IfErr result (IsMissing name_key (folded name.now) (map (name_group tables.now.pool) names.now)) }
-{
-    let mut probe = NameProbe {
-        tables,
-        names,
-        name,
-        steps: Steps::new(),
-    };
-    search_last_first(names.len(), &mut probe)
-}
-
-// Does what [`search`] does, but asks about the last index first.
-fn search_last_first<P: Probe>(len: usize, p: &mut P) -> Result<usize, usize>
+/// Does what [`search`] does, but asks about the last index first: tables are built of entries in ascending order, so
+/// a new email comes after the last one, and an old name is the last one of its email or comes after it.
+pub(crate) fn search_last_first<P: Probe>(len: usize, p: &mut P) -> Result<usize, usize>
     requires whole { len ≡ length (P.answers p.old) }
     requires parted { IsPartitioned (P.answers p.old) }
     requires none_asked { P.asked p.old ≡ 0 }

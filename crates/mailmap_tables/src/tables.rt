@@ -1,7 +1,7 @@
 //! The tables of a snapshot: a pool with the bytes of all texts, and a table of emails with their names, whose rows say
 //! where their texts are in the pool.
-ghost use Rattle.std.specs.Prelude.{◌≡◌, ◌++◌, ◌+◌, ◌<◌, ◌≤◌, ◌^◌, [], IfOk, OnErr, OnOk, length, map, slice_set};
-ghost use Rattle.std.specs.List.{HoldsAt, insert};
+ghost use Rattle.std.specs.Prelude.{◌≡◌, ◌++◌, ◌+◌, ◌<◌, ◌≤◌, ◌^◌, [], IfOk, OnErr, OnOk, length, map, slice_get, slice_set};
+ghost use Rattle.std.specs.List.{insert};
 ghost use Rattle.std.specs.Option.{ForSome, option_map};
 ghost use Rattle.mailmap_entries.specs.Folding.{Text};
 ghost use Rattle.mailmap_tables.specs.Pool.{rows_of};
@@ -131,7 +131,7 @@ fn copied(alloc: Global, rows: &[EmailRow]) -> Result<Vec<EmailRow>, AllocError>
 
 /// Changes of single rows.
 impl Tables {
-    ghost use Rattle.mailmap_tables.specs.Groups.{Contents, EmailGroup};
+    ghost use Rattle.mailmap_tables.specs.Groups.{Contents};
     ghost use Rattle.mailmap_tables.specs.Pool.{IsRow, IsWithin, NameInPool, RowInPool, TextsInPool, fields_of, name_group};
     ghost use Rattle.mailmap_tables.specs.Pool.{prefix_of, row_group, row_of, spelled, text_of, with_email_at};
     ghost use Rattle.mailmap_tables.specs.RowTexts.{old_span};
@@ -160,23 +160,20 @@ impl Tables {
     pub(crate) fn replace_texts(&mut self, email: usize, texts: RowTexts)
         requires email { email < length self.old.groups }
         requires in_pool { TextsInPool (length self.old.pool) texts }
-        requires same { HoldsAt (λ (g : EmailGroup). spelled self.old.pool (old_span texts) ≡ g.old_email)
-            self.old.groups email }
-        ensures { HoldsAt
-            (λ (g : EmailGroup). self.new
-            ≡ with_email_at self.old email (record g { own = fields_of self.old.pool texts })) self.old.groups email }
+        requires same { ForSome (slice_get self.old.groups email)
+            (λ g. spelled self.old.pool (old_span texts) ≡ g.old_email) }
+        ensures { ForSome (slice_get self.old.groups email)
+            (λ g. self.new ≡ with_email_at self.old email (record g { own = fields_of self.old.pool texts })) }
     {
         self.emails[email].texts = texts;
     }
 
     pub(crate) fn replace_name(&mut self, email: usize, index: usize, row: NameRow)
         requires email { email < length self.old.groups }
-        requires index { HoldsAt (λ (g : EmailGroup). index < length g.names) self.old.groups email }
+        requires index { ForSome (slice_get self.old.groups email) (λ g. index < length g.names) }
         requires in_pool { NameInPool (length self.old.pool) row }
-        ensures { HoldsAt
-            (λ (g : EmailGroup). self.new
-            ≡ with_email_at self.old email (record g { names = slice_set g.names index (name_group self.old.pool row) }))
-            self.old.groups email }
+        ensures { ForSome (slice_get self.old.groups email) (λ g. self.new
+            ≡ with_email_at self.old email (record g { names = slice_set g.names index (name_group self.old.pool row) })) }
     {
         self.emails[email].names[index] = row;
     }
@@ -189,12 +186,10 @@ impl Tables {
         row: NameRow,
     ) -> Result<(), AllocError>
         requires email { email < length self.old.groups }
-        requires index { HoldsAt (λ (g : EmailGroup). index ≤ length g.names) self.old.groups email }
+        requires index { ForSome (slice_get self.old.groups email) (λ g. index ≤ length g.names) }
         requires in_pool { NameInPool (length self.old.pool) row }
-        ensures ok { OnOk result (HoldsAt
-            (λ (g : EmailGroup). self.new
-            ≡ with_email_at self.old email (record g { names = insert g.names index (name_group self.old.pool row) }))
-            self.old.groups email) }
+        ensures ok { OnOk result (ForSome (slice_get self.old.groups email) (λ g. self.new
+            ≡ with_email_at self.old email (record g { names = insert g.names index (name_group self.old.pool row) }))) }
         ensures err { OnErr result (self.new ≡ self.old) }
     {
         let count = with_more(self.name_count, 1)?;
@@ -211,7 +206,7 @@ impl Tables {
         row: EmailRow,
     ) -> Result<(), AllocError>
         requires index { index ≤ length self.old.groups }
-        requires prefix { prefix ≡ prefix_of self.old.pool (row_of row) }
+        requires prefix { prefix ≡ prefix_of (row_group self.old.pool (row_of row)) }
         requires in_pool { RowInPool self.old.pool (row_of row) }
         ensures ok { OnOk result
             (self.new ≡ record self.old { groups = insert self.old.groups index (row_group self.old.pool (row_of row)) }) }

@@ -103,6 +103,7 @@ impl<'a> View<'a> {
         ensures new_email { result.1 ≡ email_span texts }
     {
         let len = self.pool.len();
+        // so that the sums in `new_name` and `new_email` don't overflow
         prove!(texts.start <= len);
         (texts.new_name(), texts.new_email())
     }

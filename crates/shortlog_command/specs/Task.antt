@@ -1,5 +1,5 @@
 -- The arguments of `mailmap_shortlog`, and what each task prints.
-use Rattle.std.specs.Prelude.{◌≡◌, ◌==◌, ◌&&◌, ◌||◌, ⊤, ℕ, Bool, true, false, if◌then◌else◌, nat_eq, nat_lt, IsTrue, List, [], ◌∷◌, ◌++◌, Option, Result, Ok, Err, IfSome, codes, drop, length, slice_index}
+use Rattle.std.specs.Prelude.{◌≡◌, ◌==◌, ◌&&◌, ◌||◌, ⊤, ℕ, Bool, true, false, if◌then◌else◌, nat_eq, nat_lt, IsTrue, List, [], ◌∷◌, ◌++◌, Option, Result, Ok, Err, IfSome, codes, drop, length, not, slice_index}
 use Rattle.std.specs.List.{list_all, list_any}
 use lib.Pointwise.{pointwise}
 use Rattle.mailmap_snapshot.specs.Folding.{Text}
@@ -13,8 +13,6 @@ use Rattle.shortlog_command.specs.declared.task.Mode.TheVariants.{Help, Version,
 use Rattle.shortlog_command.specs.declared.task.Options.{Options}
 use Rattle.shortlog_command.specs.declared.task.Task.{Task}
 use Rattle.shortlog_command.specs.declared.task.UnknownOption.{UnknownOption}
-use Rattle.shortlog_command.specs.declared.task.Word.{Word}
-use Rattle.shortlog_command.specs.declared.task.Word.TheVariants as word
 use Rattle.shortlog_command.specs.declared.task.TheConstants.{USAGE}
 
 -- ---- parsing arguments
@@ -40,14 +38,6 @@ is_dashed argument = slice_index argument 0 == 45 && nat_lt 1 (length argument)
 abbrev pub is_option : ℕ → Bool
 is_option letter = letter == 110 || letter == 101 || letter == 115
 
--- the kind of an argument where an option can stand
-abbrev pub word_of : Text → Word
-word_of argument = if same_text argument (codes "--") then word.End
-    else if same_text argument (codes "-h") || same_text argument (codes "--help") then word.Help
-    else if same_text argument (codes "--version") then word.Version
-    else if is_dashed argument then (if list_all is_option (drop 1 argument) then word.Letters else word.Unknown)
-    else word.Path
-
 abbrev pub no_options : Options
 no_options = record { by_count = false; with_email = false }
 
@@ -61,14 +51,12 @@ options_with options argument = record {
 -- the task for these arguments, after earlier ones that gave the options
 abbrev pub asked : Options → List Text → Asked
 asked options [] = task (Shortlog options) []
-asked options (argument ∷ rest) = elim (word_of argument) [
-  | word.End ↦ task (Shortlog options) rest
-  | word.Help ↦ task Help []
-  | word.Version ↦ task Version []
-  | word.Letters ↦ asked (options_with options argument) rest
-  | word.Unknown ↦ unknown_option argument
-  | word.Path ↦ task (Shortlog options) (argument ∷ rest)
-]
+asked options (argument ∷ rest) = if same_text argument (codes "--") then task (Shortlog options) rest
+    else if same_text argument (codes "-h") || same_text argument (codes "--help") then task Help []
+    else if same_text argument (codes "--version") then task Version []
+    else if not (is_dashed argument) then task (Shortlog options) (argument ∷ rest)
+    else if list_all is_option (drop 1 argument) then asked (options_with options argument) rest
+    else unknown_option argument
 
 -- ---- the output of a task
 

@@ -109,22 +109,12 @@ fn listed<'a>(
     ensures once { OnOk result (IsStrictlySortedBy answer_cmp (keys_of answers.entry.entries)) }
     ensures in_order { IfOk result (λ listed. IsStrictlySortedBy (order by_count) (map answer_counted listed.items)) }
 {
-    let mut listed = collected(alloc, answers)?;
+    let mut listed: Vec<Counted<'a>> = answers.into_iter().collect(alloc)?;
     if !by_count {
         return Ok(listed);
     }
     sort_by_counts(&mut listed)?;
     Ok(listed)
-}
-
-fn collected<'a>(
-    alloc: Global,
-    answers: BTreeMap<Answer<'a>, Occurrences>,
-) -> Result<Vec<Counted<'a>>, AllocError>
-    ensures all { IfOk result (λ listed. listed.items ≡ answers.entry.entries) }
-    ensures once { OnOk result (IsStrictlySortedBy answer_cmp (keys_of answers.entry.entries)) }
-{
-    answers.into_iter().collect(alloc)
 }
 
 fn sort_by_counts(answers: &mut Vec<Counted<'_>>) -> Result<(), AllocError>

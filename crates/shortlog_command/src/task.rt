@@ -1,11 +1,11 @@
 //! Parses the arguments of `mailmap_shortlog`, and runs what they ask for.
-ghost use Rattle.std.specs.Prelude.{◌==◌, ◌≡◌, ◌++◌, ◌∷◌, [], IfErr, IfOk, IsErrOf, IsFalse, IsTrue, Ok, OnOk, codes, drop};
+ghost use Rattle.std.specs.Prelude.{◌≡◌, IfErr, IsErrOf, IsFalse, IsTrue, Ok, OnOk, drop};
 ghost use Rattle.std.specs.Io.KnownBytes.{IsAtEnd};
-ghost use Rattle.std.specs.List.{list_all, list_any};
+ghost use Rattle.std.specs.List.{list_all};
 ghost use Rattle.command_line.specs.Failures.{IsOfFile};
 ghost use Rattle.command_line.specs.Files.{texts};
 ghost use Rattle.command_line.specs.Leaving.{LeavesText};
-ghost use Rattle.shortlog_command.specs.Task.{FailsFor, IsAnswer, asked, asked_of, counts_contacts, is_option, no_options, options_with, task, word_of};
+ghost use Rattle.shortlog_command.specs.Task.{FailsFor, IsAnswer, asked, asked_of, counts_contacts, is_option, no_options, options_with, task};
 
 use crate::shortlog::print_shortlog;
 use command_line::VERSION;
@@ -13,7 +13,7 @@ use command_line::counting::count_contacts;
 use command_line::failure::Failure;
 use command_line::files::{FileSystem, list_of, read_files};
 use command_line::streams::write_all;
-use std::alloc::{AllocError, Global};
+use std::alloc::Global;
 use std::io::{Read, Write};
 
 pub const USAGE: &str = "\
@@ -55,23 +55,6 @@ pub struct Task<'a> {
 #[derive(Clone, Copy, Debug, PartialEq, Eq)]
 pub struct UnknownOption<'a>(pub &'a [u8]);
 
-/// The kinds of arguments where an option can stand.
-#[derive(Clone, Copy, Debug, PartialEq, Eq)]
-pub(crate) enum Word {
-    /// `--`, which ends the options.
-    End,
-    /// `-h` or `--help`.
-    Help,
-    /// `--version`.
-    Version,
-    /// Letters after a `-`, each of them an option, as in `-ne`.
-    Letters,
-    /// An unknown option.
-    Unknown,
-    /// The first path.
-    Path,
-}
-
 /// Parses arguments, of which the first is the program's own name.
 ///
 /// Options are parsed from left to right, up to the first path or `--`. Parsing ends at the first of `-h`, `--help`,
@@ -98,13 +81,22 @@ fn read_options(arguments: &[Vec<u8>]) -> Result<Task<'_>, UnknownOption<'_>>
     let mut options = NO_OPTIONS;
     let mut left = arguments;
     while let [argument, rest @ ..] = left {
-        match word_of(argument.as_slice()) {
-            Word::Letters => options = with_letters(options, argument.as_slice()),
-            Word::End => return Ok(task_for(Mode::Shortlog(options), rest)),
-            Word::Path => return Ok(task_for(Mode::Shortlog(options), left)),
-            Word::Unknown => return Err(UnknownOption(argument.as_slice())),
-            Word::Help => return Ok(task_for(Mode::Help, &[])),
-            Word::Version => return Ok(task_for(Mode::Version, &[])),
+        let argument = argument.as_slice();
+        if argument == b"--".as_slice() {
+            return Ok(task_for(Mode::Shortlog(options), rest));
+        }
+        if argument == b"-h".as_slice() || argument == b"--help".as_slice() {
+            return Ok(task_for(Mode::Help, &[]));
+        }
+        if argument == b"--version".as_slice() {
+            return Ok(task_for(Mode::Version, &[]));
+        }
+        match argument {
+            [b'-', _, ..] if are_options(&argument[1..]) => options = with_letters(
+                options, argument,
+            ),
+            [b'-', _, ..] => return Err(UnknownOption(argument)),
+            _ => return Ok(task_for(Mode::Shortlog(options), left)),
         }
         left = rest;
     }
@@ -117,35 +109,10 @@ fn task_for(mode: Mode, paths: &[Vec<u8>]) -> Task<'_>
     Task { mode, paths }
 }
 
-fn word_of(argument: &[u8]) -> Word
-    ensures { result ≡ word_of argument.now }
-{
-    if argument == b"--".as_slice() {
-        return Word::End;
-    }
-    if argument == b"-h".as_slice() || argument == b"--help".as_slice() {
-        return Word::Help;
-    }
-    if argument == b"--version".as_slice() {
-        return Word::Version;
-    }
-    match argument {
-        [b'-', _, ..] if are_options(&argument[1..]) => Word::Letters,
-        [b'-', _, ..] => Word::Unknown,
-        _ => Word::Path,
-    }
-}
-
 fn are_options(letters: &[u8]) -> bool
     ensures { result ≡ list_all is_option letters.now }
 {
-    letters.iter().all(|letter| is_option(*letter))
-}
-
-fn is_option(letter: u8) -> bool
-    ensures { result ≡ is_option letter }
-{
-    letter == b'n' || letter == b'e' || letter == b's'
+    letters.iter().all(|letter| *letter == b'n' || *letter == b'e' || *letter == b's')
 }
 
 // Adds the options in the letters of an argument.
@@ -153,15 +120,9 @@ fn with_letters(options: Options, argument: &[u8]) -> Options
     ensures { result ≡ options_with options argument.now }
 {
     Options {
-        by_count: options.by_count || has(argument, b'n'),
-        with_email: options.with_email || has(argument, b'e'),
+        by_count: options.by_count || argument.contains(&b'n'),
+        with_email: options.with_email || argument.contains(&b'e'),
     }
-}
-
-fn has(argument: &[u8], letter: u8) -> bool
-    ensures { result ≡ list_any (λ l. l == letter) argument.now }
-{
-    argument.iter().any(|l| *l == letter)
 }
 
 /// Runs a task: prints the shortlog of the contacts on the input, the usage, or the version.
@@ -192,8 +153,8 @@ pub fn perform<F: FileSystem, R: Read, W: Write>(
     match task.mode {
         Mode::Help => write_all(output, USAGE.as_bytes()),
         Mode::Version => {
-            let line = version_line(alloc)?;
-            write_all(output, line.as_slice())
+            let line = format!(in alloc; "mailmap_shortlog {VERSION}\n")?;
+            write_all(output, line.as_bytes())
         }
         Mode::Shortlog(options) => {
             let mailmaps = read_files(system, alloc, task.paths)?;
@@ -210,13 +171,4 @@ pub fn perform<F: FileSystem, R: Read, W: Write>(
             )
         }
     }
-}
-
-fn version_line(alloc: Global) -> Result<Vec<u8>, AllocError>
-    ensures { IfOk result (λ line. line.items ≡ codes "mailmap_shortlog " ++ VERSION.now ++ 10 ∷ []) }
-{
-    let mut line = Vec::from_slice(alloc, b"mailmap_shortlog ")?;
-    line.extend_from_slice(VERSION.as_bytes())?;
-    line.push(b'\n')?;
-    Ok(line)
 }

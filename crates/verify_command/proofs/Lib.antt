@@ -1,3 +1,3 @@
-mod Explaining
+mod EachLine
 mod Leaving
 mod Objects

@@ -77,12 +77,6 @@ setting_named name = if same_text name (codes "--contacts") then Some setting.Co
     else if same_text name (codes "--format") then Some setting.Format
     else if same_text name (codes "--stdin-name") then Some setting.StdinName else None
 
--- and by its letter
-abbrev pub setting_lettered : Text → Option Setting
-setting_lettered name = if same_text name (codes "-S") then Some setting.Severity
-    else if same_text name (codes "-e") then Some setting.Exclude
-    else if same_text name (codes "-f") then Some setting.Format else None
-
 -- the index of the first `=`
 abbrev pub equals_in : Text → Option ℕ
 equals_in argument = position (λ byte. byte == 61) argument
@@ -99,14 +93,11 @@ name_in argument = name_at argument (equals_in argument)
 abbrev pub value_in : Text → Option Text
 value_in argument = option_map (λ at. drop (at + 1) argument) (equals_in argument)
 
--- an option with a value that may be in the same argument, as in `--format=json`
+-- a long option with a value that may be in the same argument, as in `--format=json`, an unknown option, or a path
 abbrev pub setting_word : Text → Word
-setting_word argument = elim (setting_lettered argument) [
-  | Some setting ↦ word.Next setting
-  | None ↦ elim (setting_named (name_in argument)) [
-    | Some setting ↦ if is_some (value_in argument) then word.Joined setting else word.Next setting
-    | None ↦ if is_dashed argument then word.Unknown else word.Path
-  ]
+setting_word argument = elim (setting_named (name_in argument)) [
+  | Some setting ↦ if is_some (value_in argument) then word.Joined setting else word.Next setting
+  | None ↦ if is_dashed argument then word.Unknown else word.Path
 ]
 
 -- the kind of an argument where an option can stand
@@ -116,7 +107,10 @@ word_of argument = if same_text argument (codes "--") then word.End
     else if same_text argument (codes "--help") then word.Alone Help
     else if same_text argument (codes "--version") then word.Alone Version
     else if same_text argument (codes "--prune") then word.Mode Prune
-    else if same_text argument (codes "--explain") then word.Mode Explain else setting_word argument
+    else if same_text argument (codes "--explain") then word.Mode Explain
+    else if same_text argument (codes "-S") then word.Next setting.Severity
+    else if same_text argument (codes "-e") then word.Next setting.Exclude
+    else if same_text argument (codes "-f") then word.Next setting.Format else setting_word argument
 
 -- ---- what an option adds to a request
 

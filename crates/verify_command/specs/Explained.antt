@@ -1,6 +1,5 @@
 -- Explanations of contacts, line by line: what each maps to, and the mailmap lines behind it.
-use Rattle.std.specs.Prelude.{◌≡◌, ℕ, List, [], ◌∷◌, ◌++◌, Option, None, Some, IfSome, Result, codes, take}
-use Rattle.std.specs.Io.KnownBytes.{Appends, Consumes}
+use Rattle.std.specs.Prelude.{◌≡◌, List, [], ◌∷◌, ◌++◌, Option, None, Some, codes}
 use Rattle.std.specs.List.{All, flat_map}
 use Rattle.mailmap_snapshot.specs.Contacts.{contact_line, contact_with}
 use Rattle.mailmap_findings.specs.Explanations.{origin_positions}
@@ -8,12 +7,8 @@ use Rattle.mailmap_entries.specs.Folding.{Text}
 use Rattle.mailmap_redundancy.specs.Origins.{Origins, origins}
 use Rattle.mailmap_entries.specs.Semantics.{Fields, answer_of}
 use Rattle.mailmap_grammar.specs.Lines.{ParsedContact, Absent, Unclosed, Closed, contact_in}
+use Rattle.command_line.specs.Answering.{AnswersAll}
 use Rattle.command_line.specs.Files.{AreRead, AtPath}
-use Rattle.command_line.specs.Leaving.{LeavesAnswers}
-use Rattle.command_line.specs.Lines.{EndsLine, HasRead}
-use Rattle.command_line.specs.Printing.{Prints}
-use Rattle.command_line.specs.declared.failure.Failure.{Failure}
-use Rattle.command_line.specs.declared.failure.Failure.TheVariants.{Memory, Output}
 use Rattle.mailmap_findings.specs.Positions.{located_lines, located, whole_lines}
 use Rattle.mailmap_redundancy.specs.Redundancy.{AreEffective, LocatedMapping, entries}
 use Rattle.mailmap_grammar.specs.Trimming.{trim}
@@ -54,40 +49,9 @@ explained_line g line = shown_unless_blank (trim line) (contact_explained g (tri
 abbrev pub ExplainsEach : Grounds → List CachedLine → Type 0
 ExplainsEach g kept = All (λ k. k.answer ≡ explained_line g k.line) kept
 
--- ---- lines that are answered one after another
-
+-- the texts for lines, one after another
 abbrev pub each_line : (Text → Text) → Text → Text
 each_line answer text = flat_map answer (whole_lines text)
-
--- The text answers all lines of the input. If the input is unknown, it answers some lines.
-abbrev pub MapsAll : (Text → Text) → Option Text → Text → Type 0
-MapsAll answer input text = (lines : Text) × IfSome input (λ bytes. lines ≡ bytes) × (text ≡ each_line answer lines)
-
--- the text answers whole lines at the start of these bytes
-abbrev pub MapsFront : (Text → Text) → Text → Text → Type 0
-MapsFront answer bytes text =
-    (whole rest : Text) × EndsLine whole × (bytes ≡ whole ++ rest) × (text ≡ each_line answer whole)
-
--- The text answers whole lines at the start of what was read from the input.
-abbrev pub MapsLines : (Text → Text) → Option Text → Option Text → Text → Type 0
-MapsLines answer old new text = (read : Text) × Consumes old new read × MapsFront answer read text
-
--- The text answers all whole lines that were read.
-abbrev pub MapsWholeLines : (Text → Text) → Option Text → Option Text → Text → Type 0
-MapsWholeLines answer old new text = (lines rest : Text) × HasRead old new lines rest × (text ≡ each_line answer lines)
-
--- What answering the lines of a text has written at a failure: if memory runs out the answers to the first lines, and if
--- writing fails a prefix of all.
-abbrev pub StopsIn : (Text → Text) → Text → Option Text → Option Text → Failure → Type 0
-StopsIn answer text before after Memory = Prints (MapsFront answer text) before after
-StopsIn answer text before after Output = (n : ℕ) × Appends before after (take n (each_line answer text))
-StopsIn answer text before after _ = ⊥
-
--- what answering the lines of the input has written
-abbrev pub LeavesLines : {T : Type 0} → (Text → Text) → Option Text → Option Text → Option Text → Option Text
-    → Result T Failure → Type 0
-LeavesLines answer old new before after result = LeavesAnswers (MapsAll answer old) (MapsWholeLines answer old new)
-    (Prints (MapsLines answer old new) before after) new before after result
 
 -- ---- explanations with mailmaps
 
@@ -95,11 +59,11 @@ LeavesLines answer old new before after result = LeavesAnswers (MapsAll answer o
 abbrev pub Explains : List Text → List Text → ((Text → Text) → Text → Type 0) → Text → Type 0
 Explains paths mailmaps IsText text =
     (kept : List LocatedMapping) × AreEffective (located (located_lines mailmaps)) kept
-    × IsText (explained_line (record { paths = paths; history = located (located_lines mailmaps); kept = kept })) text
+    × IsText (each_line (explained_line (record { paths = paths; history = located (located_lines mailmaps); kept = kept }))) text
 
 -- It explains all lines of the input.
 abbrev pub ExplainsAll : List Text → List Text → Option Text → Text → Type 0
-ExplainsAll paths mailmaps input text = Explains paths mailmaps (λ answer. MapsAll answer input) text
+ExplainsAll paths mailmaps input text = Explains paths mailmaps (λ answers. AnswersAll answers input) text
 
 -- The same with the mailmaps in the files at these paths.
 abbrev pub ExplainsBy : (Text → AtPath) → List Text → ((Text → Text) → Text → Type 0) → Text → Type 0

@@ -9,16 +9,17 @@ use Rattle.mailmap_findings.specs.Positions.{whole_lines}
 use Rattle.mailmap_suggestions.specs.Histories.{histories_of}
 use Rattle.mailmap_suggestions.specs.SuggestedText.{suggested_text, suggestion_text}
 use Rattle.mailmap_suggestions.specs.Suggestions.{Suggestion}
+use Rattle.command_line.specs.Answering.{AnswersAll, AnswersAllRead, AnswersRead}
 use Rattle.command_line.specs.Failures.{IsOfFile}
+use Rattle.command_line.specs.declared.failure.Failure.TheVariants.{File, Input, Memory, Output}
 use Rattle.command_line.specs.Files.{AreRead, AtPath, Fails, Gives, NamesFile}
 use Rattle.command_line.specs.Printing.{Prints, PrintsFront}
 use Rattle.command_line.specs.declared.TheConstants.{VERSION}
-use Rattle.command_line.specs.declared.failure.Failure.TheVariants.{File, Input, Memory, Output}
 use Rattle.command_line.specs.declared.outcome.Outcome.{Outcome}
 use Rattle.command_line.specs.declared.outcome.Outcome.TheVariants.{Clean}
 pub use Rattle.verify_command.specs.Arguments.{Wanted, is_dash, reads_contacts, reads_mailmap, takes_contacts, wanted_of}
 use Rattle.verify_command.specs.Report.{Piece, Says, finding_piece}
-use Rattle.verify_command.specs.Explained.{ExplainsBy, MapsAll, MapsLines, MapsWholeLines}
+use Rattle.verify_command.specs.Explained.{ExplainsBy}
 use Rattle.verify_command.specs.Settings.{mailmap_names}
 use Rattle.verify_command.specs.declared.failure.TaskFailure.{TaskFailure}
 use Rattle.verify_command.specs.declared.failure.TaskFailure.TheVariants.{Run, Contacts as NoContacts, TooManyFiles, ReadOtherwise}
@@ -134,12 +135,12 @@ pub record Leaves {W : Type 0} (in_pieces : Bool) (IsText : Outcome → Text →
 -- before, and `left` after.
 pub record LeavesExplained {W : Type 0} (at : Text → AtPath) (paths : List Text) (unread left : Option Text)
     (contents : W → Option Text) (old new : W) (result : Result Outcome TaskFailure) : Type 0 where
-  pub prints : IfOk result (λ outcome. Prints (ExplainsBy at paths (λ answer. MapsAll answer unread))
+  pub prints : IfOk result (λ outcome. Prints (ExplainsBy at paths (λ answers. AnswersAll answers unread))
       (contents old) (contents new) × (outcome ≡ Clean))
   pub breaks_off : IsErrOf result (Run Output)
-      → PrintsFront (ExplainsBy at paths (λ answer. MapsAll answer unread)) (contents old) (contents new)
+      → PrintsFront (ExplainsBy at paths (λ answers. AnswersAll answers unread)) (contents old) (contents new)
   pub input_fails : (cause : ErrorKind) → IsErrOf result (Run (Input cause))
-      → Prints (ExplainsBy at paths (λ answer. MapsWholeLines answer unread left)) (contents old) (contents new)
+      → Prints (ExplainsBy at paths (λ answers. AnswersAllRead answers unread left)) (contents old) (contents new)
   pub memory_fails : IsErrOf result (Run Memory) → (new ≡ old)
-      ⊎ Prints (ExplainsBy at paths (λ answer. MapsLines answer unread left)) (contents old) (contents new)
+      ⊎ Prints (ExplainsBy at paths (λ answers. AnswersRead answers unread left)) (contents old) (contents new)
   pub silent : IfErr result (λ e. IsOfMailmap e → new ≡ old)

@@ -1,37 +1,38 @@
 //! Explains contacts line by line, while they are read.
-ghost use Rattle.std.specs.Prelude.{◌≡◌, ◌++◌, IfOk, OnErr, OnOk, map, ◌⊎◌, [], IfErr};
+ghost use Rattle.std.specs.Prelude.{◌≡◌, ◌++◌, IfErr, IfOk, OnErr, OnOk, map};
 ghost use Rattle.mailmap_redundancy.specs.Origins.{origins};
 ghost use Rattle.mailmap_entries.specs.Semantics.{answer_of};
-ghost use Rattle.mailmap_findings.specs.Positions.{located_lines, located};
+ghost use Rattle.mailmap_findings.specs.Positions.{located_lines, located, whole_lines};
 ghost use Rattle.mailmap_redundancy.specs.Redundancy.{AreEffective, entries};
-ghost use Rattle.verify_command.specs.Explained.{explained_line, mapped_text, LeavesLines, StopsIn, each_line};
-ghost use Rattle.std.specs.Io.KnownBytes.{Appends, IsAtEnd};
-ghost use Rattle.command_line.specs.Failures.{IsOfInput};
+ghost use Rattle.verify_command.specs.Explained.{explained_line, mapped_text, each_line};
+ghost use Rattle.std.specs.Io.KnownBytes.{IsAtEnd};
 ghost use Rattle.command_line.specs.Files.{texts};
 ghost use Rattle.verify_command.specs.Task.{FailsFor, IsOfMailmap, LeavesExplained, wanted_of};
+ghost use Rattle.std.proofs.Common.{◌∙◌, ap, flat_map, sym};
+ghost use Rattle.std.proofs.lemmas.Grind.{flat_map-append};
+ghost use Rattle.command_line.proofs.Reading.{lines_of-append};
+ghost use Rattle.mailmap_findings.proofs.WholeLines.{lines-whole};
 
 use crate::asked::{Mode, Request};
 use crate::failure::TaskFailure;
 use crate::report::{push_positions, shown_line};
 use answer_cache::{AnswerCache, hash_of};
 use bstr::ByteSlice;
-use command_line::failure::Failure;
+use command_line::answering::{LineAnswers, answer_lines};
 use command_line::files::{FileSystem, list_of, read_files};
-use command_line::lines::read_lines;
 use command_line::outcome::Outcome;
-use command_line::printer::Printer;
 use mailmap_findings::explain::Explanations;
 use mailmap_findings::verify::Mailmaps;
 use mailmap_grammar::contacts::{ParsedContact, parse_name_and_email, trim};
 use mailmap_snapshot::check::push_contact;
 use std::alloc::{AllocError, Global};
-use std::io::{ErrorKind, Read, Write};
+use std::io::{Read, Write};
 use std::marker::Model;
 
 /// Explains contacts line by line using mailmaps.
 ///
-/// Caches the explanations of the last 4,096 lines that were seen twice, in 1.1 MiB: in the log of a repository, most
-/// lines recur.
+/// Caches the explanations of up to 4,096 lines at their second miss, in 1.1 MiB, unless a line and its explanation have
+/// more than 250 bytes together: in the log of a repository, most lines recur.
 ///
 /// Contracts see it as the mailmaps' paths, their entries and the effective ones.
 #[derive(Drop)]
@@ -152,8 +153,7 @@ impl<'p, 'm, 'a> Explainer<'p, 'm, 'a> {
 
 /// Explains the contacts on the input using the mailmaps, which are read first.
 ///
-/// Output is written as lines come in: before the next read, all lines that have ended are explained. So a program that
-/// talks through pipes gets its answer after each line. The first failure ends the run.
+/// Output is written as lines come in, as [`answer_lines`] does. The first failure ends the run.
 pub(crate) fn explain<F: FileSystem, R: Read, W: Write>(
     system: &F,
     alloc: Global,
@@ -174,61 +174,51 @@ pub(crate) fn explain<F: FileSystem, R: Read, W: Write>(
     let mailmaps = read_files(system, alloc, paths)?;
     let buffers = list_of(alloc, mailmaps.as_slice())?;
     let parsed = Mailmaps::read(alloc, buffers.as_slice())?;
-    let mut explainer = Explainer::new(alloc, paths, &parsed)?;
-    explain_input(alloc, &mut explainer, input, output)?;
+    let explainer = Explainer::new(alloc, paths, &parsed)?;
+    let kept = Vec::new(alloc);
+    let mut lines = ExplainedLines { explainer, kept };
+    answer_lines(alloc, &mut lines, input, output)?;
     Ok(Outcome::Clean)
 }
 
-fn explain_input<R: Read, W: Write>(
-    alloc: Global,
-    explainer: &mut Explainer<'_, '_, '_>,
-    input: &mut R,
-    output: &mut W,
-) -> Result<(), Failure>
-    ensures leaves { LeavesLines (explained_line explainer.old) (R.remaining input.old) (R.remaining input.new)
-        (W.contents output.old) (W.contents output.new) result }
-    ensures only { IfErr result (λ e. IsOfInput e ⊎ (e ≡ Failure.Memory) ⊎ (e ≡ Failure.Output)) }
-{
-    let mut printer = Printer::new(alloc)?;
-    let mut held = Vec::new(alloc);
-    let mut text = Vec::new(alloc);
-    for _ in 0..u64::MAX {
-        let more = read_lines(input, &mut held, &mut text)?;
-        print_lines(alloc, explainer, text.as_slice(), &mut printer, output)?;
-        if !more {
-            return Ok(());
-        }
-    }
-    // Not reached: no input has so many reads.
-    Err(Failure::Input {
-        cause: ErrorKind::Other,
-    })
+// The lines of an input, which an explainer explains.
+#[derive(Drop)]
+struct ExplainedLines<'p, 'm, 'a> {
+    explainer: Explainer<'p, 'm, 'a>,
+    // the start of a line that hasn't ended yet
+    kept: Vec<u8>,
 }
 
-fn print_lines<W: Write>(
-    alloc: Global,
-    explainer: &mut Explainer<'_, '_, '_>,
-    text: &[u8],
-    printer: &mut Printer,
-    output: &mut W,
-) -> Result<(), Failure>
-    requires nothing_is_held { printer.old ≡ [] }
-    ensures ok { OnOk result (Appends (W.contents output.old) (W.contents output.new)
-        (each_line (explained_line explainer.old) text.now)) }
-    ensures err { IfErr result (StopsIn (explained_line explainer.old) text.now (W.contents output.old)
-        (W.contents output.new)) }
-    ensures empty { OnOk result (printer.new ≡ []) }
-    ensures same { explainer.new ≡ explainer.old }
-    ensures only { IfErr result (λ e. (e ≡ Failure.Memory) ⊎ (e ≡ Failure.Output)) }
-{
-    let mut explained = Vec::new(alloc);
-    for line in text.lines_with_terminator() {
-        explained.clear();
-        let Ok(()) = explainer.push_explained_line(&mut explained, line) else {
-            printer.flush(output)?;
-            return Err(Failure::Memory);
+impl LineAnswers for ExplainedLines<'_, '_, '_> {
+    ghost answers = { λ s. each_line (explained_line s.explainer) };
+
+    ghost kept = { λ s. s.kept.items };
+
+    fn push(&mut self, part: &[u8], text: &mut Vec<u8>) -> Result<usize, AllocError> {
+        let Some(feed) = part.find_byte(b'\n') else {
+            self.kept.extend_from_slice(part)?;
+            return Ok(part.len());
         };
-        printer.print(output, explained.as_slice())?;
+        let begun = self.kept.len();
+        self.kept.extend_from_slice(&part[..feed + 1])?;
+        let Ok(()) = self
+            .explainer
+            .push_explained_line(text, self.kept.as_slice())
+        else {
+            self.kept.truncate(begun);
+            return Err(AllocError);
+        };
+        self.kept.clear();
+        Ok(feed + 1)
     }
-    printer.flush(output)
+
+    fn finish(&mut self, text: &mut Vec<u8>) -> Result<(), AllocError> {
+        self.explainer
+            .push_explained_line(text, self.kept.as_slice())
+    }
+
+    ghost in_order = { λ s whole more ends. ap (flat_map (explained_line s.explainer))
+        (sym (lines-whole (whole ++ more)) ∙ lines_of-append whole more ends
+        ∙ (λ i. lines-whole whole i ++ lines-whole more i))
+        ∙ flat_map-append (explained_line s.explainer) (whole_lines whole) (whole_lines more) };
 }

@@ -5,7 +5,7 @@ ghost use Rattle.std.specs.Vec.Iter.{into_iter_items, into_iter_len};
 ghost use Rattle.command_line.specs.Files.{texts};
 ghost use Rattle.verify_command.specs.Arguments.{IsAsked, asked, can_be_mailmap, checked, contacts_name, equals_in};
 ghost use Rattle.verify_command.specs.Arguments.{finished, format_named, is_only_dash, level_named, name_in, plain, reads_mailmap};
-ghost use Rattle.verify_command.specs.Arguments.{reports, setting_lettered, setting_named, setting_word, unused_setting};
+ghost use Rattle.verify_command.specs.Arguments.{reports, setting_named, setting_word, unused_setting};
 ghost use Rattle.verify_command.specs.Arguments.{value_in, wanted_of, with_excluded, with_mode, with_paths, with_setting};
 ghost use Rattle.verify_command.specs.Arguments.{without_value, word_of};
 
@@ -263,17 +263,17 @@ fn word_of(argument: &[u8]) -> Word
         _ if argument == b"--version".as_slice() => Word::Alone(Mode::Version),
         _ if argument == b"--prune".as_slice() => Word::Mode(Mode::Prune),
         _ if argument == b"--explain".as_slice() => Word::Mode(Mode::Explain),
+        _ if argument == b"-S".as_slice() => Word::Next(Setting::Severity),
+        _ if argument == b"-e".as_slice() => Word::Next(Setting::Exclude),
+        _ if argument == b"-f".as_slice() => Word::Next(Setting::Format),
         _ => setting_word(argument),
     }
 }
 
-// An option with a value, or an unknown one, or a path.
+// A long option with a value, or an unknown option, or a path.
 fn setting_word(argument: &[u8]) -> Word
     ensures { result ≡ setting_word argument.now }
 {
-    if let Some(setting) = setting_lettered(argument) {
-        return Word::Next(setting);
-    }
     let (name, value) = parts(argument);
     if let Some(setting) = setting_named(name) {
         return match value {
@@ -303,17 +303,6 @@ fn equals_in(argument: &[u8]) -> Option<usize>
     ensures { result ≡ equals_in argument.now }
 {
     argument.iter().position(|byte| *byte == b'=')
-}
-
-fn setting_lettered(name: &[u8]) -> Option<Setting>
-    ensures { result ≡ setting_lettered name.now }
-{
-    match name {
-        _ if name == b"-S".as_slice() => Some(Setting::Severity),
-        _ if name == b"-e".as_slice() => Some(Setting::Exclude),
-        _ if name == b"-f".as_slice() => Some(Setting::Format),
-        _ => None,
-    }
 }
 
 fn setting_named(name: &[u8]) -> Option<Setting>

@@ -31,6 +31,7 @@ impl<'a> Prefixed<'a> {
 
     /// Takes a prefix that was computed before.
     #[inline(always)]
+    #[tactic(auto, using(crate::proofs::Prefixes::folded_bytes))]
     pub fn with_prefix(text: &'a [u8], prefix: u128) -> Prefixed<'a>
         requires { prefix ≡ key_prefix 16 (folded text.now) }
         ensures text { result.text.now ≡ text.now }
@@ -66,6 +67,7 @@ impl Steps {
 
 /// The first sixteen bytes of a text as a big-endian number. Capital letters count as small ones, and a byte past the
 /// end as 0. Texts whose prefixes differ are in the order of their prefixes.
+#[tactic(auto, using(crate::proofs::Prefixes::number_of, crate::proofs::Prefixes::folded_bytes))]
 pub fn key_prefix(text: &[u8]) -> u128
     ensures { IsKeyPrefix result (folded text.now) }
 {
@@ -74,6 +76,7 @@ pub fn key_prefix(text: &[u8]) -> u128
 
 // The first sixteen bytes, with zeros after a shorter text.
 #[inline(always)]
+#[tactic(auto, using(crate::proofs::Prefixes::first_laws))]
 fn first_bytes(text: &[u8]) -> [u8; 16]
     ensures { key_prefix 16 (map to_ascii_lowercase result) ≡ key_prefix 16 (folded text.now) }
 {

@@ -102,6 +102,7 @@ impl ContactStream {
 
     /// Does what [`finish`](ContactStream::finish) does, but the stream can be used further: the next push starts a new
     /// line. If this fails, `text` and the stream stay as they were.
+    #[tactic(auto, using(crate::proofs::Streams::finish_laws))]
     pub fn finish_line(&mut self, text: &mut Vec<u8>) -> Result<(), AllocError>
         ensures ok { OnOk result (text.new.items ≡ text.old.items ++ answers self.old.mappings self.old.kept) }
         ensures ended { OnOk result ((self.new.kept ≡ []) × (self.new.mappings ≡ self.old.mappings)) }
@@ -208,8 +209,8 @@ fn is_own_answer(line: &[u8]) -> bool
     }
 }
 
-// Does what `push_cached_answer` does for a line that was joined. It isn't inlined, so that the loop of `push` has one copy
-// of `push_cached_answer`, and takes three quarters of the time that it takes with two.
+// Does what `push_cached_answer` does for a line that was joined. It isn't inlined, so that the loop of `push` has one
+// copy of `push_cached_answer`, and takes three quarters of the time that it takes with two.
 #[inline(never)]
 fn push_joined_answer(
     text: &mut Vec<u8>,
@@ -228,6 +229,7 @@ fn push_joined_answer(
 // Appends the answer to a line with its line feed, from the cache if possible. Inserts the line into the cache at its
 // second miss. A line that is too long for the cache isn't hashed. If this fails, the text stays as it was.
 #[inline(always)]
+#[tactic(auto, using(crate::proofs::Streams::cache_laws))]
 fn push_cached_answer(
     text: &mut Vec<u8>,
     snapshot: &Snapshot,

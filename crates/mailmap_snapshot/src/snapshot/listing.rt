@@ -33,11 +33,7 @@ impl Snapshot {
     {
         // no listing has more entries than the tables have rows, so the count can't overflow
         let _rows = self.tables.view().row_count();
-        let mut count = 0;
-        for _entry in self.iter() {
-            count += 1;
-        }
-        count
+        self.iter().count()
     }
 
     /// The entries of [`iter`](Snapshot::iter()) in a vector. `Err` if memory runs out.

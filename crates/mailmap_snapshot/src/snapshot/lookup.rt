@@ -30,6 +30,7 @@ pub struct ResolvedSignature<'a> {
 
 /// What tables answer to a name and an email.
 #[inline(always)]
+#[tactic(auto, using(crate::proofs::Resolved::name_laws))]
 fn look_up<'a>(
     tables: &View<'a>,
     name: &[u8],

@@ -20,12 +20,7 @@ loop-call-preserved c =
     rw (take_more calls k call c.loop-call-test.true, sym c.call-item.is, sym (flat_map_more sources_of [] (take k calls) call))
     (c.in_ok-make.ensures (flat_map sources_of (take k calls)) c.loop-call.invariant)
 
-pub returns-clause-headline : goal.returns-clause-headline
-returns-clause-headline c =
+pub returns : goal.returns
+returns c =
     let done = rw (take_all c.loop-call.call-index c.args.calls.now (omega arith)) at c.loop-call.invariant in
-    c.law_headline.ensures _ _ (merged [] [] _ _ nothing done.normal)
-
-pub returns-clause-marks : goal.returns-clause-marks
-returns-clause-marks c =
-    let done = rw (take_all c.loop-call.call-index c.args.calls.now (omega arith)) at c.loop-call.invariant in
-    done.marks
+    record { headline = c.law_headline.ensures _ _ (merged [] [] _ _ nothing done.normal); marks = done.marks }

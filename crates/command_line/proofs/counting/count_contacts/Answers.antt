@@ -1,33 +1,27 @@
-use Rattle.std.proofs.Common.{rules, ◌++◌}
+use Rattle.std.proofs.Common.{rules, ◌++◌, [], append-nil, inl, refl, sym, take}
+use Rattle.std.proofs.KnownBytes.{Consumes-nil, Consumes-trans}
 use Rattle.bstr.specs.Text.{lines_of}
 use Rattle.bstr.proofs.lemmas.LineLemmas.{lines-nil}
-use Rattle.contact_counter.specs.Counts.{HasCounted}
-use Rattle.command_line.proofs.Reading.{all_read, lines_begun, lines_of-append, read_on}
+use Rattle.command_line.proofs.Reading.{all_given, lines_of-append}
 use Rattle.command_line.proofs.counting.count_contacts.Goals as goal
 
 pub loop-init : goal.loop-init
-loop-init g c = lines_begun (λ lines. HasCounted (lines_of lines) c.in_ok-contacts.contacts) c.new-held.ensures.items (rw lines-nil c.in_ok-contacts.ensures)
+loop-init g c = ([], Consumes-nil (g.R.Read.remaining c.args.input.now), record { whole = []; ends = inl refl; is = sym c.new-kept.ensures.items; counted = rw lines-nil c.in_ok-contacts.ensures })
 
 pub loop-preserved : goal.loop-preserved
 loop-preserved g c =
     let h = c.loop.invariant in
-    record {
-      lines = h.lines ++ c.read_lines.new.text.items;
-      read = read_on (search rules) (c.in_ok-more.ensures.reads (g.R.Read.remaining c.args.input.now) h.lines h.read);
-      holds = rw (lines_of-append h.lines c.read_lines.new.text.items h.read.ends) (rw c.as_slice.ensures.value at (c.in_ok-add_lines.ensures (lines_of h.lines) h.holds));
-    }
+    let part = take c.in-Ok.count c.read_part.new.buffer in
+    (h.0 ++ part, Consumes-trans (g.R.Read.remaining c.args.input.now) (g.R.Read.remaining c.loop.input) (g.R.Read.remaining c.read_part.new.reader) h.0 part h.1 c.in-Ok.ensures.part, c.in_ok-add_part.ensures h.0 h.2)
 
-pub returns-then-not-more-clause-counts : goal.returns-then-not-more-clause-counts
-returns-then-not-more-clause-counts g c =
+pub returns-then-count-eq0-clause-counts : goal.returns-then-count-eq0-clause-counts
+returns-then-count-eq0-clause-counts g c =
     let h = c.loop.invariant in
-    let all = h.lines ++ c.read_lines.new.text.items in (
-      all,
-      all_read (search rules) (c.in_ok-more.ensures.reads (g.R.Read.remaining c.args.input.now) h.lines h.read),
-      c.in_ok-into_contacts.ensures (lines_of all)
-          (rw (lines_of-append h.lines c.read_lines.new.text.items h.read.ends) (rw c.as_slice.ensures.value at (c.in_ok-add_lines.ensures (lines_of h.lines) h.holds))),
+    let old = g.R.Read.remaining c.args.input.now in
+    let later = g.R.Read.remaining c.read_part.new.reader in
+    let none = rw c.if-count-eq0.true at c.in-Ok.ensures.part in (
+      h.0,
+      all_given old later h.0 (rw (append-nil h.0) at (Consumes-trans old (g.R.Read.remaining c.loop.input) later h.0 [] h.1 none)) (c.in-Ok.ensures.end c.if-count-eq0.true (search rules)),
+      c.in_ok-into_contacts.ensures (lines_of h.0)
+          (rw (h.2.is, lines_of-append h.2.whole c.loop.kept.items h.2.ends) (rw c.as_slice.ensures.value at (c.in_ok-add_lines.ensures (lines_of h.2.whole) h.2.counted))),
     )
-
-pub returns-then-not-more-clause-end : goal.returns-then-not-more-clause-end
-returns-then-not-more-clause-end g c =
-    let h = c.loop.invariant in
-    ((c.in_ok-more.ensures.reads (g.R.Read.remaining c.args.input.now) h.lines h.read).end (search rules)).0

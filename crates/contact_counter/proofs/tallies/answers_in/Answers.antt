@@ -1,7 +1,8 @@
 use Rattle.std.proofs.Common.{◌≡◌, ◌∙◌, ◌++◌, ap, append-nil, map, sym}
 use Rattle.std.proofs.lemmas.Map.Iter.{rest_all}
-use Rattle.contact_counter.specs.Counts.{answer_key, tally_of}
-use Rattle.contact_counter.proofs.Entries.{entry_of, shown_entries}
+use Rattle.std.proofs.lemmas.Simd.{map-map}
+use Rattle.contact_counter.specs.Counts.{answer_key, answer_key_tally, tally_of}
+use Rattle.contact_counter.proofs.Entries.{entry_of}
 use Rattle.contact_counter.proofs.Tallied.{map_tallies}
 use Rattle.contact_counter.proofs.tallies.answers_in.Goals as goal
 
@@ -13,4 +14,5 @@ returns c = λ ts same.
     c.next.ensures.steps in
     let all : map entry_of answers ≡ es =
     sym (append-nil (map entry_of answers)) ∙ sym (ap (λ l. map entry_of answers ++ l) none) ∙ c.loop-name.invariant in
-    map_tallies answer_key es ts (map tally_of answers) c.len.ensures.ordered (shown_entries answers es all) same
+    map_tallies answer_key es ts (map tally_of answers) c.len.ensures.ordered
+    (sym (map-map answer_key_tally entry_of answers) ∙ ap (map answer_key_tally) all) same

@@ -12,13 +12,7 @@ pub loop-name-preserved : goal.loop-name-preserved
 loop-name-preserved c =
     let answer : Tally → Tally = answered (entries c.args.needs.now.history) in
     let is : answer_key_tally (c.answer_of-answer.result, c.in-Some.seen.now)
-    ≡ answer (item_tally (c.in-Some.field-0-0, c.in-Some.seen)) = (λ i. record {
-      contact = record { name = c.answer_of-answer.ensures.name i; email = c.answer_of-answer.ensures.email i };
-      seen = c.in-Some.seen.now;
-    }) ∙ (λ i. answer (record {
-      contact = record { name = c.as_slice.ensures.value i; email = c.as_slice-in-loop-name.ensures.value i };
-      seen = c.in-Some.seen.now;
-    })) in
+    ≡ answer (item_tally (c.in-Some.field-0-0, c.in-Some.seen)) = search rules in
     item_more answer_key answer c.loop-name.answers.entries c.add_to.new.tallies.entries c.answer_of-answer.result
     c.loop-name.yielded (c.in-Some.field-0-0, c.in-Some.seen) c.in_ok-add_to.ensures.ok c.loop-name.invariant is
 

@@ -7,8 +7,7 @@ use Rattle.contact_counter.proofs.Steps.{sorted_mapped}
 use Rattle.mailmap_contacts.proofs.comparisons.sort_by_places.Goals as goal
 
 pub returns-clause-whole : goal.returns-clause-whole
-returns-clause-whole c =
-    IsPermutation-map finding_view c.args.findings.now.items c.sort_unstable_by_key.new.self.items c.sort_unstable_by_key.ensures.permutation
+returns-clause-whole c = search (rules, IsPermutation-map)
 
 pub returns-clause-in_order : goal.returns-clause-in_order
 returns-clause-in_order c =

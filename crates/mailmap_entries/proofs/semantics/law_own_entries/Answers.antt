@@ -2,4 +2,4 @@ use Rattle.mailmap_entries.proofs.Building.{normal_repeated}
 use Rattle.mailmap_entries.proofs.semantics.law_own_entries.Goals as goal
 
 pub returns : goal.returns
-returns c h n d = normal_repeated h n d
+returns c = normal_repeated

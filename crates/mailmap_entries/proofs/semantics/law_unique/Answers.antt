@@ -2,4 +2,4 @@ use Rattle.mailmap_entries.proofs.Unique.{normal_unique}
 use Rattle.mailmap_entries.proofs.semantics.law_unique.Goals as goal
 
 pub returns : goal.returns
-returns c h n m a b = normal_unique h n m a b
+returns c = normal_unique

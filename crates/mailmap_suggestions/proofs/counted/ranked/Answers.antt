@@ -1,5 +1,5 @@
 use Rattle.std.proofs.Common.{◌∙◌, arith, sym}
-use Rattle.mailmap_suggestions.proofs.Grouping.{ranked_more, tally_pushed}
+use Rattle.mailmap_suggestions.proofs.Forms.{ranked_more, tally_pushed}
 use Rattle.mailmap_suggestions.proofs.counted.ranked.Goals as goal
 
 pub loop-index-preserved : goal.loop-index-preserved

@@ -1,10 +1,10 @@
-use Rattle.std.proofs.Common.{◌∙◌, ◌+◌, ◌++◌, ap, flat_map, get_or, map, subst, sym, take, take_all}
+use Rattle.std.proofs.Common.{rules, ◌∙◌, ◌+◌, ◌++◌, ap, get_or, map, subst, sym, take, take_all}
 use Rattle.std.specs.List.{All}
 use Rattle.std.proofs.lemmas.List.{take_more}
 use Rattle.mailmap_entries.specs.Entries.{mapping_of}
 use Rattle.mailmap_contacts.specs.Answers.{tally_of}
 use Rattle.mailmap_contacts.proofs.Steps.{made_more}
-use Rattle.mailmap_suggestions.specs.Changes.{HaveEmail, contacts_of}
+use Rattle.mailmap_suggestions.specs.Private.{HaveEmail, contacts_of}
 use Rattle.mailmap_suggestions.specs.Forms.{entries_for_email}
 use Rattle.mailmap_suggestions.proofs.Forms.{IsPart, are_parts, part_entries, parts_whole}
 use Rattle.mailmap_suggestions.proofs.entries.entries_to.Goals as goal
@@ -25,9 +25,4 @@ loop-part-preserved c =
     ∙ sym (made_more (part_entries h to) (take k parts) (take (k + 1) parts) (get_or parts k part) (take_more parts k part c.loop-part-test.true))
 
 pub returns : goal.returns
-returns c =
-    let h = c.args.answers.now in
-    let to = (tally_of c.args.to.now).contact in
-    c.loop-part.invariant
-    ∙ ap (flat_map (part_entries h to)) (take_all c.loop-part.part-index c.deref-part-items.result.now c.loop-part-test.false ∙ c.deref-part-items.ensures.value)
-    ∙ parts_whole h to (contacts_of c.args.group.now) _ c.in_ok-by_old_email.ensures
+returns c = search (rules, take_all, parts_whole)

@@ -1,14 +1,13 @@
-use Rattle.std.proofs.Common.{◌∙◌, ◌∷◌, [], ◌&&◌, ap, false, sym, true}
+use Rattle.std.proofs.Common.{rules, ◌∙◌, ◌∷◌, [], ◌&&◌, ap, false, sym, true}
 use Rattle.mailmap_entries.specs.Entries.{mapping_of}
 use Rattle.mailmap_contacts.specs.Answers.{tally_of}
-use Rattle.mailmap_suggestions.specs.Changes.{contacts_of, listed}
+use Rattle.mailmap_suggestions.specs.Private.{contacts_of}
 use Rattle.mailmap_suggestions.specs.Forms.{are_answered, plus, short_form}
 use Rattle.mailmap_suggestions.proofs.Forms.{answered_all, plain_answered, plain_formed, plain_nobody, plain_tried}
 use Rattle.mailmap_suggestions.proofs.entries.plain_entry.Goals as goal
 
 pub returns-in_err-first : goal.returns-in_err-first
-returns-in_err-first c = λ email all.
-    ap listed c.from_residual.ensures ∙ plain_nobody c.args.answers.now (tally_of c.args.to.now).contact c.args.contacts.now c.in_err-first.ensures.value
+returns-in_err-first c = λ email all. search (rules, plain_nobody)
 
 pub returns-then-are_answered : goal.returns-then-are_answered
 returns-then-are_answered c = λ email all.

@@ -6,7 +6,7 @@ use Rattle.mailmap_entries.specs.Folding.{folded}
 use Rattle.mailmap_contacts.specs.Answers.{tally_of}
 use Rattle.mailmap_contacts.specs.Contacts.{Contact}
 use Rattle.mailmap_contacts.proofs.Steps.{all_filtered}
-use Rattle.mailmap_suggestions.specs.Changes.{HaveEmail, IsPlain, contacts_of, listed}
+use Rattle.mailmap_suggestions.specs.Private.{HaveEmail, IsPlain, contacts_of, listed}
 use Rattle.mailmap_suggestions.specs.Forms.{has_own_entry, named_entries, plain_entries, plus}
 use Rattle.mailmap_suggestions.proofs.Forms.{plain_entries_plain, unowned_are}
 use Rattle.mailmap_suggestions.proofs.entries.push_entries_for_email.Goals as goal

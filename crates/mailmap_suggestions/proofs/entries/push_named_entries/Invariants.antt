@@ -3,7 +3,7 @@ use Rattle.std.proofs.Common.{◌++◌, List, drop, map}
 use Rattle.mailmap_entries.specs.Entries.{Mapping, mapping_of}
 use Rattle.mailmap_entries.specs.Folding.{Text}
 use Rattle.mailmap_contacts.specs.Answers.{tally_of}
-use Rattle.mailmap_suggestions.specs.Changes.{AreChangesBy, HaveEmail, contacts_of}
+use Rattle.mailmap_suggestions.specs.Private.{AreChangesBy, HaveEmail, contacts_of}
 use Rattle.mailmap_suggestions.specs.Forms.{named_entries, plus}
 use Rattle.mailmap_suggestions.proofs.Forms.{ArePushed}
 use Rattle.mailmap_suggestions.proofs.entries.push_named_entries.Given as goal

@@ -3,8 +3,8 @@ use Rattle.mailmap_contacts.specs.Answers.{tally_of}
 use Rattle.mailmap_contacts.proofs.Steps.{mapped_more}
 use Rattle.mailmap_contacts.specs.Folded.{folded_text}
 use Rattle.mailmap_contacts.specs.declared.folded.Folded.{Folded}
-use Rattle.mailmap_suggestions.specs.Grouping.{HasMembers, has_key, keyed_of, tallies_in}
-use Rattle.mailmap_suggestions.proofs.Grouping.{group_and, members_more, tally_pushed}
+use Rattle.mailmap_suggestions.specs.Private.{HasMembers, has_key, keyed_of, tallies_in}
+use Rattle.mailmap_suggestions.proofs.Forms.{group_and, members_more, tally_pushed}
 use Rattle.mailmap_suggestions.proofs.groups.by_key.Goals as goal
 
 pub loop-key-preserved : goal.loop-key-preserved

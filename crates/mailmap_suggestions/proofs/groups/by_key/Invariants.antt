@@ -1,6 +1,6 @@
 -- The contacts so far by their keys.
 use Rattle.std.proofs.Common.{map, take}
-use Rattle.mailmap_suggestions.specs.Grouping.{HasMembers, has_key, keyed_of}
+use Rattle.mailmap_suggestions.specs.Private.{HasMembers, has_key, keyed_of}
 use Rattle.mailmap_suggestions.proofs.groups.by_key.Given as goal
 
 abbrev pub invariant-loop-key : goal.invariant-loop-key

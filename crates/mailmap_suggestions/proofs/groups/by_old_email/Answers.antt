@@ -4,8 +4,8 @@ use Rattle.std.proofs.lemmas.Simd.{map-map}
 use Rattle.mailmap_entries.specs.Folding.{folded}
 use Rattle.mailmap_contacts.specs.Answers.{tally_of}
 use Rattle.mailmap_suggestions.specs.GroupEntries.{contacts}
-use Rattle.mailmap_suggestions.specs.Grouping.{grouped, keyed_by, keyed_of, tallies_in}
-use Rattle.mailmap_suggestions.proofs.Grouping.{email_groups}
+use Rattle.mailmap_suggestions.specs.Private.{grouped, keyed_by, keyed_of, tallies_in}
+use Rattle.mailmap_suggestions.proofs.Forms.{email_groups}
 use Rattle.mailmap_suggestions.proofs.groups.by_old_email.Goals as goal
 
 pub returns : goal.returns

@@ -2,7 +2,7 @@
 use Rattle.std.proofs.Common.{◌≡◌, map, take}
 use Rattle.mailmap_entries.specs.Folding.{folded}
 use Rattle.mailmap_contacts.specs.Answers.{tally_of}
-use Rattle.mailmap_suggestions.specs.Grouping.{keyed_by, keyed_of}
+use Rattle.mailmap_suggestions.specs.Private.{keyed_by, keyed_of}
 use Rattle.mailmap_suggestions.proofs.groups.by_old_email.Given as goal
 
 abbrev pub invariant-loop-contact : goal.invariant-loop-contact

@@ -1,7 +1,7 @@
 -- Those of the contacts so far whose answers have a text to share.
 use Rattle.std.proofs.Common.{◌≡◌, [], bytes_eq, filter, map, not, take}
 use Rattle.mailmap_contacts.specs.Answers.{tally_of}
-use Rattle.mailmap_suggestions.specs.Grouping.{keyed_by, keyed_of, shared_by, text_of}
+use Rattle.mailmap_suggestions.specs.Private.{keyed_by, keyed_of, shared_by, text_of}
 use Rattle.mailmap_suggestions.proofs.groups.by_shared.Given as goal
 
 abbrev pub invariant-loop-contact : goal.invariant-loop-contact

@@ -2,8 +2,8 @@ use Rattle.std.proofs.Common.{◌∙◌, ap, map, subst, sym, take, take_all}
 use Rattle.std.proofs.lemmas.List.Elements.{All-from_recursion}
 use Rattle.mailmap_contacts.proofs.Steps.{mapped_more}
 use Rattle.mailmap_suggestions.specs.Forms.{distinct}
-use Rattle.mailmap_suggestions.specs.Grouping.{keyed_of, keys, members}
-use Rattle.mailmap_suggestions.proofs.Grouping.{AreTaken, key_among, taken_more}
+use Rattle.mailmap_suggestions.specs.Private.{keyed_of, keys, members}
+use Rattle.mailmap_suggestions.proofs.Forms.{AreTaken, key_among, taken_more}
 use Rattle.mailmap_suggestions.proofs.groups.grouped.Goals as goal
 
 pub loop-key-preserved : goal.loop-key-preserved

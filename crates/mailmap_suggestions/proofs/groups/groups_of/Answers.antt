@@ -2,8 +2,8 @@ use Rattle.std.proofs.Common.{◌≡◌, ◌∙◌, ap, filter, map, not, rules,
 use Rattle.std.proofs.lemmas.Fn.{filter_same}
 use Rattle.mailmap_contacts.specs.Answers.{tally_of}
 use Rattle.mailmap_suggestions.specs.GroupEntries.{are_alike, contacts}
-use Rattle.mailmap_suggestions.specs.Grouping.{grouped, keyed_of, shared_by, tallies_in}
-use Rattle.mailmap_suggestions.proofs.Grouping.{shared_groups}
+use Rattle.mailmap_suggestions.specs.Private.{grouped, keyed_of, shared_by, tallies_in}
+use Rattle.mailmap_suggestions.proofs.Forms.{shared_groups}
 use Rattle.mailmap_suggestions.proofs.groups.groups_of.Goals as goal
 use Rattle.mailmap_entries.proofs.Parts.{filter-map}
 

@@ -1,6 +1,6 @@
 -- The groups so far have their suggestions.
 use Rattle.std.proofs.Common.{◌≡◌, ◌++◌, map, take}
-use Rattle.mailmap_suggestions.specs.Grouping.{tallies_in}
+use Rattle.mailmap_suggestions.specs.Private.{tallies_in}
 use Rattle.mailmap_suggestions.specs.Suggestions.{suggestion}
 use Rattle.mailmap_suggestions.specs.Views.{suggestion_of}
 use Rattle.mailmap_suggestions.proofs.suggestions.push_suggestions.Given as goal

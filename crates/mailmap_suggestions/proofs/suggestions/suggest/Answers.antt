@@ -1,11 +1,9 @@
-use Rattle.std.proofs.Common.{◌≡◌, ◌∙◌, ◌++◌, false, true, ap, map}
-use Rattle.std.specs.List.{flat_map}
+use Rattle.std.proofs.Common.{rules, ◌≡◌, ◌∙◌, ◌++◌, false, true, ap, map}
 use Rattle.mailmap_contacts.specs.Answers.{tally_of}
 use Rattle.mailmap_contacts.specs.Contacts.{contacts_from, tallied}
-use Rattle.mailmap_entries.specs.Semantics.{accepted}
 use Rattle.mailmap_suggestions.specs.Histories.{histories_of}
 use Rattle.mailmap_suggestions.specs.Forms.{plus}
-use Rattle.mailmap_suggestions.specs.Suggestions.{Suggestion, suggestion}
+use Rattle.mailmap_suggestions.specs.Suggestions.{suggestion}
 use Rattle.mailmap_suggestions.specs.GroupEntries.{email_entries, email_shared, groups, name_shared}
 use Rattle.mailmap_suggestions.specs.Views.{suggestion_of}
 use Rattle.mailmap_suggestions.proofs.Forms.{suggested_entries}
@@ -19,10 +17,6 @@ returns c = λ lines are.
     let hist = c.in_ok-histories.ensures in
     let contacts : map tally_of c.deref.result.now ≡ ts = ap (map tally_of) c.deref.ensures.value ∙ c.in_ok-contacts.ensures lines are in
     let again : map tally_of c.deref-3.result.now ≡ ts = ap (map tally_of) c.deref-3.ensures.value ∙ c.in_ok-contacts.ensures lines are in
-    let first : map suggestion_of c.push_suggestions.new.found.items ≡ map (suggestion h false) gs =
-    c.in_ok-push_suggestions.ensures
-    ∙ (λ i. map suggestion_of (c.new-found.ensures.items i) ++ map (suggestion (hist i) false) (groups email_shared (hist i) (contacts i))) in
-    let more : c.add_entries.new.histories ≡ plus h (email_entries h ts) = c.in_ok-add_entries.ensures
-    ∙ (λ i. plus (hist i) (accepted (flat_map (λ (s : Suggestion). s.entries) (map suggestion_of (c.deref-2.ensures.value i)))))
-    ∙ ap (λ l. plus h (accepted (flat_map (λ s. s.entries) l))) first ∙ ap (plus h) (suggested_entries h false gs) in
+    let first : map suggestion_of c.push_suggestions.new.found.items ≡ map (suggestion h false) gs = search rules in
+    let more : c.add_entries.new.histories ≡ plus h (email_entries h ts) = search (rules, suggested_entries) in
     c.in_ok-push_suggestions-2.ensures ∙ (λ i. first i ++ map (suggestion (more i) true) (groups name_shared (more i) (again i)))

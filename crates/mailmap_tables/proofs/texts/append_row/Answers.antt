@@ -1,4 +1,3 @@
-use Rattle.std.proofs.lemmas.Grind.{common_steps}
 use Rattle.std.proofs.Common.{◌≡◌, ◌<◌, ◌++◌, [], append-nil, length, option_map, unwrap_or, sym, ap, ◌∙◌, arith}
 use Rattle.mailmap_entries.specs.Folding.{Text}
 use Rattle.mailmap_tables.specs.Pool.{Extends, stored_len, text_of}
@@ -19,15 +18,6 @@ append_optional-requires-2 c =
 
 pub returns-in_err-old_len-clause-grown : goal.returns-in_err-old_len-clause-grown
 returns-in_err-old_len-clause-grown c = same_pool _ _ c.in_err-old_len.ensures.same
-
-pub returns-in_err-new_name_len-clause-grown : goal.returns-in_err-new_name_len-clause-grown
-returns-in_err-new_name_len-clause-grown c = grind (arith, common_steps)
-
-pub returns-in_err-new_email_len-clause-grown : goal.returns-in_err-new_email_len-clause-grown
-returns-in_err-new_email_len-clause-grown c = grind (arith, common_steps)
-
-pub returns-clause-grown : goal.returns-clause-grown
-returns-clause-grown c = grind (arith, common_steps)
 
 pub returns-clause-row : goal.returns-clause-row
 returns-clause-row c =

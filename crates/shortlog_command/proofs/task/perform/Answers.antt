@@ -8,5 +8,5 @@ returns-in_ok-contacts-in-Shortlog-clause-leaves g c =
     leaves_weaker {r = c.print_shortlog.result} (λ text made. rw c.in-Shortlog.is (
       texts c.in_ok-mailmaps-in-Shortlog.mailmaps.items,
       c.in_ok-mailmaps-in-Shortlog.ensures.ok,
-      (read.0, read.1, rw (c.as_slice-buffers.ensures.value, c.in_ok-list-in-Shortlog.ensures, c.as_slice-in-Shortlog.ensures.value) at made),
+      (read.0, read.1, rw (c.as_slice-buffers.ensures.value, c.in_ok-list-in-Shortlog.ensures, c.as_slice.ensures.value) at made),
     )) (c.print_shortlog.ensures.leaves read.0 read.2)

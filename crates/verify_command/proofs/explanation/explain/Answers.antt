@@ -7,13 +7,14 @@ use Rattle.command_line.specs.declared.failure.Failure.TheVariants.{File, Input,
 use Rattle.mailmap_entries.specs.Folding.{Text}
 use Rattle.mailmap_findings.specs.Positions.{located_lines, located}
 use Rattle.mailmap_redundancy.specs.Redundancy.{AreEffective}
-use Rattle.verify_command.specs.Explained.{ExplainsBy, Grounds, LeavesLines, MapsAll, MapsLines, MapsWholeLines, explained_line}
+use Rattle.command_line.specs.Answering.{AnswersAll, AnswersAllRead, AnswersRead, LeavesLines}
+use Rattle.verify_command.specs.Explained.{ExplainsBy, Grounds, each_line, explained_line}
 use Rattle.verify_command.specs.Task.{FailsFor, LeavesExplained, ReadsInput, Wanted, reads_contacts, wanted_of}
 use Rattle.verify_command.specs.declared.failure.TaskFailure.TheVariants.{Run}
 use Rattle.verify_command.proofs.Leaving.{fails_reading, no_input}
 use Rattle.verify_command.proofs.explanation.explain.Given as given
 use Rattle.verify_command.proofs.explanation.explain.Goals as goal
-use Rattle.verify_command.proofs.explanation.explain.Goals.{After-explain_input}
+use Rattle.verify_command.proofs.explanation.explain.Goals.{After-answer_lines}
 
 -- the explanations are made from the mailmaps at these paths
 record AreGrounds (at : Text → AtPath) (g : Grounds) (paths mailmaps : List Text) : Type 0 where
@@ -22,12 +23,12 @@ record AreGrounds (at : Text → AtPath) (g : Grounds) (paths mailmaps : List Te
   history_is : g.history ≡ located (located_lines mailmaps)
   effective : AreEffective g.history g.kept
 
-explained : {at : Text → AtPath} {g : Grounds} {paths mailmaps : List Text} (IsText : (Text → Text) → Text → Type 0) (text : Text) → AreGrounds at g paths mailmaps → IsText (explained_line g) text → ExplainsBy at paths IsText text
+explained : {at : Text → AtPath} {g : Grounds} {paths mailmaps : List Text} (IsText : (Text → Text) → Text → Type 0) (text : Text) → AreGrounds at g paths mailmaps → IsText (each_line (explained_line g)) text → ExplainsBy at paths IsText text
 explained {g = g} {paths} {mailmaps} IsText text are is =
     let same : g ≡ record { paths = paths; history = located (located_lines mailmaps); kept = g.kept } = λ i. record { paths = are.paths_are i; history = are.history_is i; kept = g.kept } in
-    (mailmaps, are.read, (g.kept, subst (λ h. AreEffective h g.kept) are.history_is are.effective, subst (λ x. IsText (explained_line x) text) same is))
+    (mailmaps, are.read, (g.kept, subst (λ h. AreEffective h g.kept) are.history_is are.effective, subst (λ x. IsText (each_line (explained_line x)) text) same is))
 
-prints_by : {at : Text → AtPath} {g : Grounds} {paths mailmaps : List Text} (IsText : (Text → Text) → Text → Type 0) (before after : Option Text) → AreGrounds at g paths mailmaps → Prints (IsText (explained_line g)) before after → Prints (ExplainsBy at paths IsText) before after
+prints_by : {at : Text → AtPath} {g : Grounds} {paths mailmaps : List Text} (IsText : (Text → Text) → Text → Type 0) (before after : Option Text) → AreGrounds at g paths mailmaps → Prints (IsText (each_line (explained_line g))) before after → Prints (ExplainsBy at paths IsText) before after
 prints_by IsText before after are p = (p.0, explained IsText p.0 are p.1, p.2)
 
 no_file : (e : Failure) → IsOfInput e ⊎ ((e ≡ Memory) ⊎ (e ≡ Output)) → IsOfFile e → ⊥
@@ -36,12 +37,12 @@ no_file _ only of = of
 
 -- explaining by these grounds failed
 explaining_failed : {W T : Type 0} {at : Text → AtPath} {g : Grounds} {paths mailmaps : List Text} {unread left : Option Text} {contents : W → Option Text} {old new : W} {e : Failure} → AreGrounds at g paths mailmaps → IsOfInput e ⊎ ((e ≡ Memory) ⊎ (e ≡ Output))
-    → LeavesLines {T = T} (explained_line g) unread left (contents old) (contents new) (Err e) → LeavesExplained at paths unread left contents old new (Err (Run e))
+    → LeavesLines {T = T} (each_line (explained_line g)) unread left (contents old) (contents new) (Err e) → LeavesExplained at paths unread left contents old new (Err (Run e))
 explaining_failed {unread = unread} {left} {contents} {old} {new} {e} are only l = record {
   prints = tt;
-  breaks_off = λ is. let p = l.breaks_off cc in (p.0, explained (λ answer. MapsAll answer unread) p.0 are p.1, p.2);
-  input_fails = λ cause is. let same : e ≡ Input cause = cc in prints_by (λ answer. MapsWholeLines answer unread left) _ _ are (l.input_fails (subst IsOfInput (sym same) tt));
-  memory_fails = λ is. inr (prints_by (λ answer. MapsLines answer unread left) _ _ are (l.memory_fails cc));
+  breaks_off = λ is. let p = l.breaks_off cc in (p.0, explained (λ answers. AnswersAll answers unread) p.0 are p.1, p.2);
+  input_fails = λ cause is. let same : e ≡ Input cause = cc in prints_by (λ answers. AnswersAllRead answers unread left) _ _ are (l.input_fails (subst IsOfInput (sym same) tt));
+  memory_fails = λ is. inr (prints_by (λ answers. AnswersRead answers unread left) _ _ are (l.memory_fails cc));
   silent = λ of. absurd (no_file e only of);
 }
 
@@ -51,7 +52,7 @@ fails_explaining at input w (File number cause) only reads = absurd (no_file (Fi
 fails_explaining at input w (Input cause) only reads = reads
 fails_explaining at input w _ only reads = tt
 
-grounds : (g : given.Over) (c : After-explain_input g) → AreGrounds (g.F.FileSystem.at c.args.system.now) c.in_ok-explainer.explainer (map (λ p. p.items) c.args.request.now.paths.items) (map (λ m. m.items) c.in_ok-mailmaps.mailmaps.items)
+grounds : (g : given.Over) (c : After-answer_lines g) → AreGrounds (g.F.FileSystem.at c.args.system.now) c.in_ok-explainer.explainer (map (λ p. p.items) c.args.request.now.paths.items) (map (λ m. m.items) c.in_ok-mailmaps.mailmaps.items)
 grounds g c =
     let items : Vec ℕ Global → List ℕ = λ path. path.items in
     let mailmaps = map items c.in_ok-mailmaps.mailmaps.items in
@@ -70,24 +71,24 @@ returns-in_err-mailmaps-clause-fails g c =
     rw failed (fails_reading (g.F.FileSystem.at c.args.system.now) (g.R.Read.remaining c.args.input.now) (wanted_of c.args.request.now) e (rw c.as_slice-paths.ensures.value at c.in_err-mailmaps.ensures.file)
     (λ of_input. absurd (no_input e c.in_err-mailmaps.ensures.only of_input)))
 
-pub returns-in_err-explain_input-clause-fails : goal.returns-in_err-explain_input-clause-fails
-returns-in_err-explain_input-clause-fails g c =
-    let e = c.in_err-explain_input.field-0.0 in
-    let failed : c.from_residual-in_err-explain_input.result ≡ Err (Run e) = search rules in
-    rw failed (fails_explaining (g.F.FileSystem.at c.args.system.now) (g.R.Read.remaining c.args.input.now) (wanted_of c.args.request.now) e c.in_err-explain_input.ensures.only
+pub returns-in_err-answer_lines-clause-fails : goal.returns-in_err-answer_lines-clause-fails
+returns-in_err-answer_lines-clause-fails g c =
+    let e = c.in_err-answer_lines.field-0.0 in
+    let failed : c.from_residual-in_err-answer_lines.result ≡ Err (Run e) = search rules in
+    rw failed (fails_explaining (g.F.FileSystem.at c.args.system.now) (g.R.Read.remaining c.args.input.now) (wanted_of c.args.request.now) e c.in_err-answer_lines.ensures.only
     (inl (ap (λ m. reads_contacts m c.args.request.now.contacts.items) c.requires)))
 
-pub returns-in_err-explain_input-clause-leaves : goal.returns-in_err-explain_input-clause-leaves
-returns-in_err-explain_input-clause-leaves g c =
-    let are = grounds g (goal.at.returns-in_err-explain_input-clause-leaves g c).After-explain_input in
-    let failed : c.from_residual-in_err-explain_input.result ≡ Err (Run c.in_err-explain_input.field-0.0) = search rules in
-    rw failed (explaining_failed are c.in_err-explain_input.ensures.only c.in_err-explain_input.ensures.leaves)
+pub returns-in_err-answer_lines-clause-leaves : goal.returns-in_err-answer_lines-clause-leaves
+returns-in_err-answer_lines-clause-leaves g c =
+    let are = grounds g (goal.at.returns-in_err-answer_lines-clause-leaves g c).After-answer_lines in
+    let failed : c.from_residual-in_err-answer_lines.result ≡ Err (Run c.in_err-answer_lines.field-0.0) = search rules in
+    rw failed (explaining_failed are c.in_err-answer_lines.ensures.only c.in_err-answer_lines.ensures.leaves)
 
 pub returns-clause-leaves : goal.returns-clause-leaves
 returns-clause-leaves g c =
-    let are = grounds g (goal.at.returns-clause-leaves g c).After-explain_input in
+    let are = grounds g (goal.at.returns-clause-leaves g c).After-answer_lines in
     record {
-      prints = (prints_by (λ answer. MapsAll answer (g.R.Read.remaining c.args.input.now)) (g.W.Write.contents c.args.output.now) (g.W.Write.contents c.explain_input.new.output) are c.in_ok-explain_input.ensures.leaves.prints, refl);
+      prints = (prints_by (λ answers. AnswersAll answers (g.R.Read.remaining c.args.input.now)) (g.W.Write.contents c.args.output.now) (g.W.Write.contents c.answer_lines.new.output) are c.in_ok-answer_lines.ensures.leaves.prints, refl);
       breaks_off = λ is. cc;
       input_fails = λ cause is. cc;
       memory_fails = λ is. cc;
@@ -95,4 +96,4 @@ returns-clause-leaves g c =
     }
 
 pub returns-clause-reads_all : goal.returns-clause-reads_all
-returns-clause-reads_all g c = c.in_ok-explain_input.ensures.leaves.reads_all
+returns-clause-reads_all g c = c.in_ok-answer_lines.ensures.leaves.reads_all

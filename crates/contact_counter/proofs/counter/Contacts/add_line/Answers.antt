@@ -1,13 +1,14 @@
-use Rattle.std.proofs.Common.{rules, ◌≡◌, ◌∙◌, ◌++◌, ap, refl}
+use Rattle.std.proofs.Common.{rules, ◌≡◌, ◌∙◌, ◌++◌, ap, append_assoc, refl}
 use Rattle.std.proofs.lemmas.Result.{on_ok_weaker}
 use Rattle.mailmap_grammar.specs.Lines.{contact_in}
 use Rattle.contact_counter.specs.Contacts.{contact_on, line_tally, seen_where, tally_on}
 use Rattle.contact_counter.specs.Counts.{slot_tally}
-use Rattle.contact_counter.proofs.Counting.{line_moved, slot_again, slot_moved}
+use Rattle.contact_counter.proofs.Counting.{line_moved, slot_moved}
+use Rattle.contact_counter.proofs.Sums.{same_more}
 use Rattle.contact_counter.proofs.counter.Contacts.add_line.Goals as goal
 
 pub returns-then-count_again-clause-tallies : goal.returns-then-count_again-clause-tallies
-returns-then-count_again-clause-tallies c = search (rules, slot_again, c.if-count_again.ensures.again)
+returns-then-count_again-clause-tallies c = search (rules, append_assoc, same_more, c.if-count_again.ensures.again)
 
 pub returns-then-line-gt-LONGEST-clause-tallies : goal.returns-then-line-gt-LONGEST-clause-tallies
 returns-then-line-gt-LONGEST-clause-tallies c =

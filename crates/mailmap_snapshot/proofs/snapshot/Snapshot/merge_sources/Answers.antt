@@ -30,17 +30,13 @@ loop-i-preserved c =
           (on_ok_weaker r (λ m. m.history) c.merge_source.ensures.ok) c.merge_source.ensures.err c.merge_source.ensures.out_of_memory);
     }
 
-pub returns-clause-merged : goal.returns-clause-merged
-returns-clause-merged c =
+pub returns : goal.returns
+returns c =
     let done = rw (take_all c.loop-i.i c.args.sources.now (omega arith), take_all c.loop-i.i c.loop-i.made (omega arith)) at c.loop-i.invariant.marked in
-    is_merged c.args.self.now _ c.loop-i.self c.loop-i.invariant.own done.normal
-
-pub returns-clause-never_out_of_memory : goal.returns-clause-never_out_of_memory
-returns-clause-never_out_of_memory c =
-    let done = rw (take_all c.loop-i.i c.args.sources.now (omega arith), take_all c.loop-i.i c.loop-i.made (omega arith)) at c.loop-i.invariant.marked in
-    done.marks
-
-pub returns-clause-none_made : goal.returns-clause-none_made
-returns-clause-none_made c none =
-    let done = rw (take_all c.loop-i.i c.args.sources.now (omega arith), take_all c.loop-i.i c.loop-i.made (omega arith)) at c.loop-i.invariant.marked in
-    (is_merged c.args.self.now _ c.loop-i.self c.loop-i.invariant.own done.normal).unchanged (ap accepted (none_merged c.args.sources.now c.loop-i.made (recursion_from_All _ c.loop-i.made none)))
+    let merged = is_merged c.args.self.now _ c.loop-i.self c.loop-i.invariant.own done.normal in
+    record {
+      merged = merged;
+      none_made = λ none. merged.unchanged (ap accepted (none_merged c.args.sources.now c.loop-i.made (recursion_from_All _ c.loop-i.made none)));
+      never_out_of_memory = done.marks;
+      marks = c.loop-i.invariant.long ∙ c.requires;
+    }

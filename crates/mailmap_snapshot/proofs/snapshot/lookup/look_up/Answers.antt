@@ -1,10 +1,9 @@
-use Rattle.std.proofs.Common.{◌≡◌, Some, option_map, sym, ap, ◌∙◌, arith}
-use Rattle.mailmap_entries.specs.Search.{digits}
+use Rattle.std.proofs.Common.{◌≡◌, Some, option_map, sym, ◌∙◌, arith}
 use Rattle.mailmap_entries.specs.Semantics.{answer_of, fields_with_spelling}
 use Rattle.mailmap_tables.specs.Groups.{listing}
 use Rattle.mailmap_tables.specs.Pool.{fields_of, spelled}
 use Rattle.mailmap_tables.specs.RowTexts.{old_span}
-use Rattle.mailmap_snapshot.proofs.Resolved.{scan_at_none, no_names, names_ascend, names_counted, scan_at_name, scan_at_email}
+use Rattle.mailmap_snapshot.proofs.Resolved.{scan_at_none, no_names, scan_at_name, scan_at_email}
 use Rattle.mailmap_snapshot.proofs.snapshot.lookup.look_up.Goals.{in-Ok-find_name_counted, in-Err}
 use Rattle.mailmap_snapshot.proofs.snapshot.lookup.look_up.Goals as goal
 
@@ -15,11 +14,6 @@ pub returns-in_default-clause-at_least : goal.returns-in_default-clause-at_least
 returns-in_default-clause-at_least c =
     let none = no_names c.args.tables.now.groups c.args.email.now c.in_default.field-0 c.in_default.ensures.within c.in_default.ensures.missing in
     omega (arith, none, c.in_default.ensures.at_least)
-
-pub find_name_counted-requires-clause-ascending : goal.find_name_counted-requires-clause-ascending
-find_name_counted-requires-clause-ascending c =
-    names_ascend c.args.tables.now.groups c.requires.groups c.args.email.now c.in-Ok.index c.in-Ok.ensures.found
-    c.args.tables.now.pool c.email.result.0 c.email.result.1.now c.email.ensures.group
 
 pub returns-clause-fields : goal.returns-clause-fields
 returns-clause-fields c =
@@ -36,15 +30,3 @@ returns-clause-fields c =
     c.answer.ensures.fields
     ∙ (λ k. fields_with_spelling email (record { name = option_map (spelled pool) (given.new_name k); email = option_map (spelled pool) (given.new_email k) }) (Some (spelled pool (c.old.ensures k))))
     ∙ sym scanned
-
-pub returns-clause-at_most : goal.returns-clause-at_most
-returns-clause-at_most c =
-    let names = names_counted c.args.tables.now.groups c.requires.groups c.args.email.now c.in-Ok.index c.in-Ok.ensures.found
-    c.args.tables.now.pool c.email.result.0 c.email.result.1.now c.email.ensures.group in
-    omega (arith, ap digits names, c.in-Ok.ensures.at_most, c.find_name_counted.ensures.at_most)
-
-pub returns-clause-at_least : goal.returns-clause-at_least
-returns-clause-at_least c =
-    let names = names_counted c.args.tables.now.groups c.requires.groups c.args.email.now c.in-Ok.index c.in-Ok.ensures.found
-    c.args.tables.now.pool c.email.result.0 c.email.result.1.now c.email.ensures.group in
-    omega (arith, names, c.in-Ok.ensures.at_least, c.find_name_counted.ensures.at_least)

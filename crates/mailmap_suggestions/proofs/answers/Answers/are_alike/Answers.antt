@@ -1,7 +1,7 @@
 use Rattle.std.proofs.Common.{◌≡◌, ◌∙◌, Some, ap, option_copied, slice_get, sym}
 use Rattle.mailmap_contacts.specs.Answers.{tally_of}
 use Rattle.mailmap_contacts.specs.Contacts.{Tally}
-use Rattle.mailmap_suggestions.specs.Changes.{contacts_of}
+use Rattle.mailmap_suggestions.specs.Private.{contacts_of}
 use Rattle.mailmap_suggestions.specs.Forms.{are_answered}
 use Rattle.mailmap_suggestions.proofs.Forms.{answered_all, answered_as_first}
 use Rattle.mailmap_suggestions.proofs.answers.Answers.are_alike.Goals as goal

@@ -1,7 +1,7 @@
 use Rattle.std.proofs.Common.{◌≡◌, ◌∙◌, ◌&&◌, false, sym, true}
 use Rattle.std.proofs.lemmas.List.Folds.{list_all_at, list_all_more}
 use Rattle.mailmap_contacts.specs.Answers.{tally_of}
-use Rattle.mailmap_suggestions.specs.Changes.{are_enough}
+use Rattle.mailmap_suggestions.specs.Private.{are_enough}
 use Rattle.mailmap_suggestions.proofs.changes.Changes.are_enough_for_all.Goals as goal
 
 pub returns-then-not-are_enough : goal.returns-then-not-are_enough

@@ -2,7 +2,7 @@
 use Rattle.std.proofs.Common.{◌≡◌, take, true}
 use Rattle.std.specs.List.{list_all}
 use Rattle.mailmap_contacts.specs.Answers.{tally_of}
-use Rattle.mailmap_suggestions.specs.Changes.{are_enough}
+use Rattle.mailmap_suggestions.specs.Private.{are_enough}
 use Rattle.mailmap_suggestions.proofs.changes.Changes.are_enough_for_all.Given as goal
 
 abbrev pub invariant-loop-contact : goal.invariant-loop-contact

@@ -3,7 +3,7 @@ use Rattle.std.specs.BTreeMap.{is_at}
 use Rattle.std.specs.List.{AllByRecursion, list_any}
 use Rattle.mailmap_entries.specs.Entries.{mapping_of}
 use Rattle.mailmap_contacts.specs.Answers.{folded_cmp}
-use Rattle.mailmap_suggestions.specs.Changes.{AreChangesBy, IsPlain, listed}
+use Rattle.mailmap_suggestions.specs.Private.{AreChangesBy, IsPlain, listed}
 use Rattle.mailmap_suggestions.specs.declared.changes.Changes.{Changes}
 use Rattle.mailmap_suggestions.proofs.Appended.{changes_plain}
 use Rattle.mailmap_suggestions.proofs.changes.Changes.new.Goals as goal

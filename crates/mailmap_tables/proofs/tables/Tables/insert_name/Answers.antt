@@ -1,17 +1,24 @@
 use Rattle.std.proofs.Common.{◌≤◌, ◌∙◌, ap, arith, length, refl}
 use Rattle.std.specs.List.{insert}
+use Rattle.std.proofs.lemmas.List.{length-map}
 use Rattle.std.proofs.lemmas.List.Edits.{length-insert}
 use Rattle.mailmap_entries.proofs.Results.{on_err}
 use Rattle.mailmap_tables.specs.Pool.{contents, name_group}
-use Rattle.mailmap_tables.proofs.Edited.{all_insert, edited, lies_at, map-insert, names_at, no_group, rows_same}
+use Rattle.mailmap_tables.proofs.Edited.{edited, group_seen, lies_at, rows_same}
 use Rattle.mailmap_tables.proofs.Edited.{tables-set}
+use Rattle.mailmap_tables.proofs.KeySearch.{all_insert, map-insert}
 use Rattle.mailmap_tables.proofs.tables.Tables.insert_name.Goals as goal
 
 pub insert-requires : goal.insert-requires
 insert-requires c =
-    let count = names_at c.self.inside.emails.items c.self.invariant c.self.view_is c.requires.email
-    c.index_mut.ensures.value no_group in
-    omega (arith, c.requires.index no_group, count, c.index_mut.result.now.names.ok.0)
+    let e = c.index_mut.result.now in
+    omega (
+      arith,
+      c.requires.index _ (group_seen c.self.inside.emails.items c.self.invariant c.self.view_is c.requires.email
+          c.index_mut.ensures.value),
+      length-map e.names.items (name_group c.args.self.now.pool),
+      e.names.ok.0,
+    )
 
 pub invariant_of-self : goal.invariant_of-self
 invariant_of-self c =
@@ -34,8 +41,12 @@ invariant_of-self-2 c =
     let read = c.index_mut.ensures.value in
     let its = lies_at es c.self.invariant c.self.view_is c.requires.email read in
     let names = c.in_ok-insert.ensures.items in
-    let counted = names_at es c.self.invariant c.self.view_is c.requires.email read no_group in
-    let within : c.args.index ≤ length e.names.items = omega (arith, c.requires.index no_group, counted) in
+    let within : c.args.index ≤ length e.names.items = omega (
+      arith,
+      c.requires.index _ (group_seen es c.self.invariant
+          c.self.view_is c.requires.email read),
+      length-map e.names.items (name_group c.args.self.now.pool),
+    ) in
     tables-set es c.self.invariant c.self.view_is c.requires.email read (record e { names = c.insert.new.self }) (record {
       email_lies = its.email_lies;
       names_lie = rw names (all_insert _ e.names.items c.args.index c.args.row its.names_lie

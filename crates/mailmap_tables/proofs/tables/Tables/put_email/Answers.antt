@@ -22,7 +22,7 @@ returns-in_ok-texts-in-None-clause-ok c =
     grind (arith, c.in_ok-texts-in-None.ensures.row, c.new-names.ensures.items) in
     let same = ap (λ (v : Contents). v.groups) c.append_entry.ensures.grown.1 in
     on_ok_weaker c.insert_email.result (λ d. subst (IsPut m a.groups i) (sym (ap (λ (v : Contents). v.groups) d
-    ∙ (λ j. insert (same j) i (is j)))) (put_missing m c.requires.groups c.requires.accepted i c.requires.within
+    ∙ (λ j. insert (same j) i (is j)))) (put_missing m c.requires.groups i c.requires.within
     c.requires.missing h refl
     none_sorted (rows_of_fields m c.requires.accepted (sym c.in-None.ensures)))) c.insert_email.ensures.ok
 
@@ -45,7 +45,7 @@ returns-in_ok-names-in-Some-clause-ok c =
     let same = ap (λ (v : Contents). v.groups) grown.1 ∙ ap (λ (v : Contents). v.groups) c.append_row.ensures.grown.1 in
     let named = sym c.in-Some.ensures in
     on_ok_weaker c.insert_email-in-Some.result (λ d. subst (IsPut m a.groups i) (sym (ap (λ (v : Contents). v.groups) d
-    ∙ (λ j. insert (same j) i (is j)))) (put_missing m c.requires.groups c.requires.accepted i c.requires.within
+    ∙ (λ j. insert (same j) i (is j)))) (put_missing m c.requires.groups i c.requires.within
     c.requires.missing h refl
     (one_sorted (name_key n)) (rows_of_name m old_name named (named_paired c.args.entry.now old_name named))))
     c.insert_email-in-Some.ensures.ok

@@ -1,16 +1,21 @@
 use Rattle.mailmap_tables.specs.declared.texts.RowTexts.{RowTexts}
 use Rattle.std.proofs.Common.{arith, length-set, refl, set}
 use Rattle.std.specs.Vec.{with_item}
-use Rattle.std.proofs.lemmas.List.{map-set}
+use Rattle.std.proofs.lemmas.List.{length-map, map-set}
 use Rattle.mailmap_tables.specs.Pool.{name_group}
-use Rattle.mailmap_tables.proofs.Edited.{all_set, edited, lies_at, names_at, no_group, tables-set}
+use Rattle.mailmap_tables.proofs.Edited.{all_set, edited, group_seen, lies_at, tables-set}
 use Rattle.mailmap_tables.proofs.tables.Tables.replace_name.Goals as goal
 
 pub index_mut-requires-2 : goal.index_mut-requires-2
 index_mut-requires-2 c =
-    let count = names_at c.self.inside.emails.items c.self.invariant c.self.view_is c.requires.email
-    c.index_mut.ensures.value no_group in
-    omega (arith, c.requires.index no_group, count, c.index_mut.result.now.names.ok.0)
+    let e = c.index_mut.result.now in
+    omega (
+      arith,
+      c.requires.index _ (group_seen c.self.inside.emails.items c.self.invariant c.self.view_is c.requires.email
+          c.index_mut.ensures.value),
+      length-map e.names.items (name_group c.args.self.now.pool),
+      e.names.ok.0,
+    )
 
 pub invariant_of-self : goal.invariant_of-self
 invariant_of-self c =

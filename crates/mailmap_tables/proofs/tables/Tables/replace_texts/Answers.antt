@@ -1,30 +1,27 @@
 use Rattle.std.proofs.Common.{◌≡◌, refl}
 use Rattle.mailmap_tables.specs.Pool.{fields_of, spelled}
 use Rattle.mailmap_tables.specs.RowTexts.{old_span}
-use Rattle.mailmap_tables.proofs.Edited.{edited, group_at, lies_at, no_group, tables-set}
+use Rattle.mailmap_tables.proofs.Edited.{edited, group_seen, lies_at, tables-set}
 use Rattle.mailmap_tables.proofs.tables.Tables.replace_texts.Goals as goal
 
 pub invariant_of-self : goal.invariant_of-self
 invariant_of-self c =
     let es = c.self.inside.emails.items in
-    let t = c.args.texts in
     let e = c.index_mut.result.now in
     let read = c.index_mut.ensures.value in
-    tables-set es c.self.invariant c.self.view_is c.requires.email read (record e { texts = t }) (record {
+    tables-set es c.self.invariant c.self.view_is c.requires.email read (record e { texts = c.args.texts }) (record {
       email_lies = rw (← c.self.view_is) at c.requires.in_pool;
       names_lie = (lies_at es c.self.invariant c.self.view_is c.requires.email read).names_lie;
-    }) (rw (group_at es c.self.invariant c.self.view_is c.requires.email read no_group, ← c.self.view_is) at
-    (c.requires.same no_group)) c.self.inside.name_count refl c.self.invariant.few
+    }) (rw (← c.self.view_is) at (c.requires.same _ (group_seen es c.self.invariant c.self.view_is c.requires.email read)))
+    c.self.inside.name_count refl c.self.invariant.few
 
 pub returns : goal.returns
 returns c =
     let es = c.self.inside.emails.items in
-    let t = c.args.texts in
     let e = c.index_mut.result.now in
     let read = c.index_mut.ensures.value in
     let pool = c.self.inside.pool.items in
-    let here = group_at es c.self.invariant c.self.view_is c.requires.email read no_group in
-    let same : spelled pool (old_span t) ≡ spelled pool (old_span e.texts) =
-    rw (here, ← c.self.view_is) at (c.requires.same no_group) in
-    edited es c.self.invariant c.self.view_is c.requires.email read (λ p g. record g { own = fields_of p t })
-    (record e { texts = t }) (rw same)
+    let same : spelled pool (old_span c.args.texts) ≡ spelled pool (old_span e.texts) =
+    rw (← c.self.view_is) at (c.requires.same _ (group_seen es c.self.invariant c.self.view_is c.requires.email read)) in
+    edited es c.self.invariant c.self.view_is c.requires.email read (λ p g. record g { own = fields_of p c.args.texts })
+    (record e { texts = c.args.texts }) (rw same)

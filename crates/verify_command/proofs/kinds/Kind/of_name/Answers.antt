@@ -1,5 +1,6 @@
-use Rattle.std.proofs.Common.{rules, ◌≡◌, ◌∙◌, Bool, true, false, cond, List, [], ◌∷◌, Option, None, Some, IfSome, ap, refl, subst, sym, tests}
+use Rattle.std.proofs.Common.{rules, ◌≡◌, ◌∙◌, List, [], ◌∷◌, Some, IfSome, ap, refl, sym, tests}
 use Rattle.std.specs.List.{find}
+use Rattle.std.proofs.lemmas.Bool.{cond_both}
 use Rattle.std.proofs.lemmas.Iterator.{YieldsList-from_slice}
 use Rattle.std.proofs.lemmas.Iterator.Search.{find_from_yields_List}
 use Rattle.std.proofs.lemmas.Slice.Eq.{bytes_eq-Decides}
@@ -14,18 +15,10 @@ found : (c : After-copied) → c.copied.result ≡ kind_named c.args.name.now
 found c = c.copied.ensures
     ∙ find_from_yields_List (λ k. same_text (kind_name k) c.args.name.now) _ _ c.find.result c.find.ensures.ran (YieldsList-from_slice kinds cc) (λ x b q k. search (rules, tests))
 
--- what a search finds passes the test
-by_first : {X : Type 0} (test : X → Bool) (xs : List X) (x y : X) (b : Bool) → (find test xs ≡ Some x → test x ≡ true) → test y ≡ b → cond b (Some y) (find test xs) ≡ Some x → test x ≡ true
-by_first test xs x y true later passes is = let same : y ≡ x = cc in subst (λ z. test z ≡ true) same passes
-by_first test xs x y false later passes is = later is
-
-found_passes : {X : Type 0} (test : X → Bool) (xs : List X) (x : X) → find test xs ≡ Some x → test x ≡ true
-found_passes test [] x is = cc
-found_passes test (y ∷ xs) x is = by_first test xs x y (test y) (found_passes test xs x) refl is
-
-has_name : (name : Text) (r : Option Kind) → r ≡ kind_named name → IfSome r (λ kind. kind_name kind ≡ name)
-has_name name None is = tt
-has_name name (Some kind) is = (bytes_eq-Decides (kind_name kind) name).0 (found_passes (λ k. same_text (kind_name k) name) kinds kind (sym is))
+-- what a search finds has the name
+found_named : (name : Text) (ks : List Kind) → IfSome (find (λ k. same_text (kind_name k) name) ks) (λ kind. kind_name kind ≡ name)
+found_named name [] = tt
+found_named name (k ∷ ks) = cond_both (same_text (kind_name k) name) (Some k) (find (λ k. same_text (kind_name k) name) ks) (λ r. IfSome r (λ kind. kind_name kind ≡ name)) (bytes_eq-Decides (kind_name k) name).0 (λ e. found_named name ks)
 
 -- no earlier kind has the same name
 itself_named : (kind : Kind) → kind_named (kind_name kind) ≡ Some kind
@@ -36,7 +29,7 @@ pub returns-clause-first : goal.returns-clause-first
 returns-clause-first c = found c
 
 pub returns-clause-named : goal.returns-clause-named
-returns-clause-named c = has_name c.args.name.now c.copied.result (found c)
+returns-clause-named c = rw (found c) (found_named c.args.name.now kinds)
 
 pub returns-clause-each : goal.returns-clause-each
 returns-clause-each c = λ kind named. found c ∙ ap kind_named (sym named) ∙ itself_named kind

@@ -1,0 +1,145 @@
+-- Answering an input part by part: what was read, answered and written.
+use Rattle.std.proofs.Common.{◌≡◌, ◌++◌, ◌∙◌, ◌-◌, ◌+◌, ℕ, List, [], ◌∷◌, Option, None, Some, Result, Ok, Err, OnErr, OnOk, ap, append-nil, append_assoc, arith, drop, inl, length, length-append, refl, subst, sym, take}
+use Rattle.std.specs.Prelude.{IsOkUnless}
+use Rattle.std.specs.Io.KnownBytes.{Appends, Consumes, IsAtEnd}
+use Rattle.std.proofs.KnownBytes.{Appends-nil, Appends-trans, Consumes-nil, Consumes-trans}
+use Rattle.std.proofs.Math.Seq.{take-add}
+use Rattle.std.proofs.lemmas.List.{take_rest}
+use Rattle.command_line.specs.Answering.{AnswersAll, AnswersFront, HasAnswered, LeavesLines, StopsIn}
+use Rattle.command_line.specs.Failures.{Failure, Memory, Output}
+use Rattle.command_line.specs.Lines.{EndsLine, HoldsNoFeed}
+use Rattle.command_line.specs.Printing.{PrintsFront}
+use Rattle.command_line.proofs.Printed.{Appends-both, Appends-longer}
+use Rattle.command_line.proofs.Reading.{all_given, ends_after}
+
+abbrev Text : Type 0
+Text = List ℕ
+
+twice_none : (xs : Text) → xs ≡ xs ++ xs → xs ≡ []
+twice_none [] is = refl
+twice_none (x ∷ xs) is = absurd (omega (arith, ap length is, length-append (x ∷ xs) (x ∷ xs)))
+
+-- what was taken of a part, and more of its rest
+pub slices : (taken count : ℕ) (part : Text) → take taken part ++ take count (take (length part - taken) (drop taken part)) ≡ take (taken + count) part
+slices taken count part = cc (take_rest part taken, take-add taken count part)
+
+-- `read` was read, and answered as far as lines ended
+pub record HasReadParts (answers : Text → Text) (kept : Text) (old now before after : Option Text) : Type 0 where
+  pub read : Text
+  pub consumed : Consumes old now read
+  pub answered : HasAnswered answers [] read kept (Appends before after)
+
+output_failed : {T : Type 0} (answers : Text → Text) (old later before after : Option Text) → PrintsFront (AnswersAll answers old) before after → LeavesLines {T = T} answers old later before after (Err Output)
+output_failed answers old later before after broken = record { prints = tt; reads_all = tt; breaks_off = λ _. broken; input_fails = λ of. absurd of; memory_fails = λ is. cc }
+
+module _ (answers : Text → Text) (in_order : (whole more : Text) → EndsLine whole → answers (whole ++ more) ≡ answers whole ++ answers more) where
+  none_answered : answers [] ≡ []
+  none_answered = twice_none (answers []) (in_order [] [] (inl refl))
+
+  -- an empty text answers the start of any bytes
+  pub front_none : (bytes : Text) → AnswersFront answers bytes [] bytes
+  front_none bytes = record { whole = []; ends = inl refl; bytes_are = refl; text_is = sym none_answered }
+
+  front_more : {bytes text rest : Text} (more : Text) {made left : Text} → AnswersFront answers bytes text rest → AnswersFront answers (rest ++ more) made left
+      → AnswersFront answers (bytes ++ more) (text ++ made) left
+  front_more {bytes} {text} {rest} more {made} {left} a b = record {
+    whole = a.whole ++ b.whole;
+    ends = ends_after a.whole b.whole a.ends b.ends;
+    bytes_are = cc (append_assoc a.whole rest more, append_assoc a.whole b.whole left);
+    text_is = cc (in_order a.whole b.whole a.ends);
+  }
+
+  -- a text that answers the start of some bytes answers the start of more
+  longer : {bytes made rest : Text} (more : Text) → AnswersFront answers bytes made rest → AnswersFront answers (bytes ++ more) made (rest ++ more)
+  longer {made = made} {rest} more a = rw (append-nil made) at (front_more more a (front_none (rest ++ more)))
+
+  pub nothing_answered : {kept : Text} {P : Text → Type 0} → HoldsNoFeed kept → P [] → HasAnswered answers kept [] kept P
+  nothing_answered {kept} held none = record { made = []; front = rw (append-nil kept) (front_none kept); no_feed = held; is_made = none }
+
+  module _ {kept xs mid : Text} {P : Text → Type 0} (h : HasAnswered answers kept xs mid P) where
+    both : (ys made rest : Text) → AnswersFront answers (mid ++ ys) made rest → AnswersFront answers (kept ++ (xs ++ ys)) (h.made ++ made) rest
+    both ys made rest f = rw (append_assoc kept xs ys) at (front_more ys h.front f)
+
+    pub more : {ys left : Text} {Q R : Text → Type 0} → ((made : Text) → Q made → R (h.made ++ made)) → HasAnswered answers mid ys left Q → HasAnswered answers kept (xs ++ ys) left R
+    more {ys} {left} join k = record {
+      made = h.made ++ k.made;
+      front = both ys k.made left k.front;
+      no_feed = k.no_feed;
+      is_made = join k.made k.is_made;
+    }
+
+  -- more bytes are answered in part after those that are answered and written
+  pub stopped : {kept xs mid : Text} (ys : Text) (before between after : Option Text) (e : Failure) → HasAnswered answers kept xs mid (Appends before between) → StopsIn answers (mid ++ ys) between after e
+      → StopsIn answers (kept ++ (xs ++ ys)) before after e
+  stopped ys before between after Memory h (made, (rest, f), written) =
+      (h.made ++ made, (rest, both h ys made rest f), Appends-trans before between after h.made made h.is_made written)
+  stopped ys before between after Output h (made, (rest, f), (n, written)) =
+      (h.made ++ made, (rest, both h ys made rest f), Appends-both before between after h.made made n h.is_made written)
+  stopped ys before between after _ h stops = absurd stops
+
+  -- no more bytes are answered
+  pub stopped_before : {kept xs mid : Text} (ys : Text) (before after : Option Text) → HasAnswered answers kept xs mid (Appends before after) → StopsIn answers (kept ++ (xs ++ ys)) before after Memory
+  stopped_before {mid = mid} ys before after h = stopped ys before after after Memory h ([], (mid ++ ys, front_none (mid ++ ys)), Appends-nil after)
+
+  -- a write of the answers to the first of some bytes fails
+  pub cut : {mid xs left : Text} (ys : Text) (between after : Option Text) {text empty shown : Text} (e : Failure) → e ≡ Output → empty ≡ [] → shown ≡ text → HasAnswered answers mid xs left (λ made. text ≡ empty ++ made)
+      → (n : ℕ) × Appends between after (take n shown) → StopsIn answers (mid ++ (xs ++ ys)) between after e
+  cut {mid} {xs} {left} ys between after e failed none is h (n, written) =
+      let said : _ ≡ h.made = is ∙ h.is_made ∙ ap (λ t. t ++ h.made) none in
+      rw failed (h.made, (left ++ ys, rw (append_assoc mid xs ys) at (longer ys h.front)), (n, rw said at written))
+
+  -- ---- all parts
+
+  -- answers to the first lines, and those to what is left, are all answers
+  all_answered : (old now : Option Text) (bytes made rest : Text) → Consumes old now bytes → AnswersFront answers bytes made rest → (later : Text) × AnswersAll answers old (made ++ later)
+  all_answered None now bytes made rest consumed a = (answers rest, (bytes, tt, cc (in_order a.whole rest a.ends)))
+  all_answered (Some x) None bytes made rest consumed a = absurd consumed
+  all_answered (Some x) (Some y) bytes made rest consumed a =
+      let b = longer y a in (answers (rest ++ y), (bytes ++ y, sym consumed, cc (in_order b.whole (rest ++ y) b.ends)))
+
+  module _ {old now : Option Text} {kept : Text} {before between : Option Text} (h : HasReadParts answers kept old now before between) where
+    module _ (later after : Option Text) (part : Text) (more_read : Consumes now later part) where
+      consumed : Consumes old later (h.read ++ part)
+      consumed = Consumes-trans old now later h.read part h.consumed more_read
+
+      pub one_more : {left : Text} → HasAnswered answers kept part left (Appends between after) → HasReadParts answers left old later before after
+      one_more k = record { read = h.read ++ part; consumed = consumed; answered = more h.answered (λ made w. Appends-trans before between after h.answered.made made h.answered.is_made w) k }
+
+      -- answering a part fails
+      pub part_failed : {T : Type 0} (e : Failure) → StopsIn answers (kept ++ part) between after e → LeavesLines {T = T} answers old later before after (Err e)
+      part_failed Memory stops =
+          let all = stopped part before between after Memory h.answered stops in
+          record { prints = tt; reads_all = tt; breaks_off = λ is. cc; input_fails = λ of. absurd of; memory_fails = λ _. (all.0, (h.read ++ part, consumed, all.1), all.2) }
+      part_failed Output stops =
+          let all = stopped part before between after Output h.answered stops in
+          let whole = all_answered old later (h.read ++ part) all.0 all.1.0 consumed all.1.1 in
+          output_failed answers old later before after (_, whole.1, Appends-longer before after all.2.0 all.0 whole.0 all.2.1)
+      part_failed _ stops = absurd stops
+
+    all_lines : (later : Option Text) → Consumes now later [] → IsAtEnd later → AnswersAll answers old (h.answered.made ++ answers kept)
+    all_lines later none end = (
+      h.read,
+      all_given old later h.read (subst (Consumes old later) (append-nil h.read) (Consumes-trans old now later h.read [] h.consumed none)) end,
+      cc (in_order h.answered.front.whole kept h.answered.front.ends),
+    )
+
+    -- a read finds the end of the input, and the answer to a last line without a line feed is written
+    pub ended : {T : Type 0} (later after : Option Text) (r : Result T Failure) → Consumes now later [] → IsAtEnd later → IsOkUnless r Output → OnOk r (Appends between after (answers kept))
+        → OnErr r ((n : ℕ) × Appends between after (take n (answers kept))) → LeavesLines answers old later before after r
+    ended later after (Ok x) none end only ok err = record {
+      prints = (_, all_lines later none end, Appends-trans before between after h.answered.made (answers kept) h.answered.is_made ok);
+      reads_all = end;
+      breaks_off = λ is. cc;
+      input_fails = tt;
+      memory_fails = λ is. cc;
+    }
+    ended later after (Err e) none end only ok (n, broken) =
+        rw only (output_failed answers old later before after (_, all_lines later none end, Appends-both before between after h.answered.made (answers kept) n h.answered.is_made broken))
+
+  -- before the first read
+  pub begun : {kept : Text} (old before : Option Text) → kept ≡ [] → HasReadParts answers kept old old before before
+  begun old before none = record { read = []; consumed = Consumes-nil old; answered = rw none (nothing_answered tt (Appends-nil before)) }
+
+  -- memory runs out then
+  pub nothing : {T : Type 0} (old before : Option Text) → LeavesLines {T = T} answers old old before before (Err Memory)
+  nothing old before = part_failed (begun old before refl) old before [] (Consumes-nil old) Memory ([], ([], front_none []), Appends-nil before)

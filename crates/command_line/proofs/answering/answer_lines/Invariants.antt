@@ -1,0 +1,9 @@
+-- Some of the input was read, and the answers to its whole lines are written.
+use Rattle.std.proofs.Common.{◌≡◌}
+use Rattle.command_line.proofs.AnsweredLines.{HasReadParts}
+use Rattle.command_line.proofs.answering.answer_lines.Given as goal
+
+abbrev pub invariant-loop : goal.invariant-loop
+invariant-loop g l = HasReadParts (g.A.LineAnswers.answers l.fn.answerer) (g.A.LineAnswers.kept l.answerer)
+    (g.R.Read.remaining l.fn.input) (g.R.Read.remaining l.input) (g.W.Write.contents l.fn.output) (g.W.Write.contents l.output)
+    × (g.A.LineAnswers.answers l.answerer ≡ g.A.LineAnswers.answers l.fn.answerer)

@@ -1,0 +1,124 @@
+//! Answers the lines of an input while they are read.
+ghost use Rattle.std.specs.Prelude.{◌≡◌, ◌<◌, ◌≤◌, ◌⊎◌, ◌++◌, [], ℕ, List, IfErr, IfOk, OnErr, OnOk, length, take};
+ghost use Rattle.std.specs.Io.KnownBytes.{Appends};
+ghost use Rattle.command_line.specs.Answering.{HasAnswered, LeavesLines, StopsIn};
+ghost use Rattle.command_line.specs.Failures.{IsOfInput};
+ghost use Rattle.command_line.specs.Lines.{EndsLine, HoldsNoFeed};
+
+use crate::failure::Failure;
+use crate::streams::{PART, flush, read_part, write_all, write_unflushed};
+use std::alloc::{AllocError, Global};
+use std::io::{ErrorKind, Read, Write};
+
+// Answers are written once they are this long, even if a part has more lines.
+const ENOUGH: usize = 65536;
+
+/// Makes answers to lines that arrive in parts.
+pub trait LineAnswers {
+    // the answers to lines
+    ghost answers: { Self → List ℕ → List ℕ };
+
+    // the start of a line that hasn't ended yet
+    ghost kept: { Self → List ℕ };
+
+    /// Takes bytes from the start of `part`, appends the answers to all lines that end in these bytes to `text`, and
+    /// returns the number of bytes. If it fails, it took nothing, and `text` stays as it was.
+    fn push(&mut self, part: &[u8], text: &mut Vec<u8>) -> Result<usize, AllocError>
+        requires { HoldsNoFeed (kept self.old) }
+        ensures takes { IfOk result (λ taken. (taken ≤ length part.now) × (0 < length part.now → 0 < taken)) }
+        ensures answers { IfOk result (λ taken. HasAnswered (answers self.old) (kept self.old) (take taken part.now)
+            (kept self.new) (λ made. text.new.items ≡ text.old.items ++ made)) }
+        ensures err { OnErr result ((kept self.new ≡ kept self.old) × (text.new.items ≡ text.old.items)) }
+        ensures same { answers self.new ≡ answers self.old };
+
+    /// Appends the answer to a last line without a line feed, if there is one. This ends the input: what was kept need
+    /// not be forgotten, so nothing is pushed after it.
+    fn finish(&mut self, text: &mut Vec<u8>) -> Result<(), AllocError>
+        requires { HoldsNoFeed (kept self.old) }
+        ensures { OnOk result (text.new.items ≡ text.old.items ++ answers self.old (kept self.old)) };
+
+    // the answers to whole lines come before those to the lines after them
+    ghost in_order: { (s : Self) (whole more : List ℕ) → EndsLine whole
+        → answers s (whole ++ more) ≡ answers s whole ++ answers s more };
+}
+
+/// Answers all lines of an input.
+///
+/// Answers are written as lines come in: before the next read, all lines that have ended are answered. So a program that
+/// talks through pipes gets its answer after each line.
+pub fn answer_lines<A: LineAnswers, R: Read, W: Write>(
+    alloc: Global,
+    answerer: &mut A,
+    input: &mut R,
+    output: &mut W,
+) -> Result<(), Failure>
+    requires { A.kept answerer.old ≡ [] }
+    ensures leaves { LeavesLines (A.answers answerer.old) (R.remaining input.old) (R.remaining input.new)
+        (W.contents output.old) (W.contents output.new) result }
+    ensures only { IfErr result (λ e. IsOfInput e ⊎ (e ≡ Failure.Memory) ⊎ (e ≡ Failure.Output)) }
+{
+    let mut text = Vec::new(alloc);
+    let mut part = [0; PART];
+    for _ in 0..u64::MAX {
+        let count = match read_part(input, &mut part) {
+            Ok(count) => count,
+            Err(cause) => return Err(Failure::Input { cause }),
+        };
+        if count == 0 {
+            text.clear();
+            answerer.finish(&mut text)?;
+            return write_all(output, text.as_slice());
+        }
+        answer_part(answerer, &part[..count], &mut text, output)?;
+    }
+    // Not reached: no input has so many reads.
+    Err(Failure::Input {
+        cause: ErrorKind::Other,
+    })
+}
+
+// Writes the answers to all lines that end in a part. `text` is a buffer that is reused from call to call.
+fn answer_part<A: LineAnswers, W: Write>(
+    answerer: &mut A,
+    part: &[u8],
+    text: &mut Vec<u8>,
+    output: &mut W,
+) -> Result<(), Failure>
+    requires { HoldsNoFeed (A.kept answerer.old) }
+    ensures ok { OnOk result (HasAnswered (A.answers answerer.old) (A.kept answerer.old) part.now (A.kept answerer.new)
+        (Appends (W.contents output.old) (W.contents output.new))) }
+    ensures err { IfErr result (StopsIn (A.answers answerer.old) (A.kept answerer.old ++ part.now)
+        (W.contents output.old) (W.contents output.new)) }
+    ensures same { A.answers answerer.new ≡ A.answers answerer.old }
+{
+    let mut taken = 0;
+    while taken < part.len() {
+        text.clear();
+        taken += push_lines(answerer, &part[taken..], text)?;
+        write_unflushed(output, text.as_slice())?;
+    }
+    flush(output)
+}
+
+// Takes lines of a part as `push` does, until the part ends or the text is long enough: `push` may take a single line.
+// If memory runs out after some lines, these are written, and the caller tries the rest again with an empty text.
+fn push_lines<A: LineAnswers>(
+    answerer: &mut A,
+    part: &[u8],
+    text: &mut Vec<u8>,
+) -> Result<usize, AllocError>
+    requires { HoldsNoFeed (A.kept answerer.old) }
+    ensures takes { IfOk result (λ taken. (taken ≤ length part.now) × (0 < length part.now → 0 < taken)) }
+    ensures answers { IfOk result (λ taken. HasAnswered (A.answers answerer.old) (A.kept answerer.old)
+        (take taken part.now) (A.kept answerer.new) (λ made. text.new.items ≡ text.old.items ++ made)) }
+    ensures same { A.answers answerer.new ≡ A.answers answerer.old }
+{
+    let mut taken = answerer.push(part, text)?;
+    while taken < part.len() && text.len() < ENOUGH {
+        match answerer.push(&part[taken..], text) {
+            Ok(count) => taken += count,
+            Err(_) => return Ok(taken),
+        }
+    }
+    Ok(taken)
+}

@@ -1,7 +1,0 @@
-use Rattle.std.specs.Cmp.Lexicographic.{nat_list_cmp_total}
-use Rattle.mailmap_entries.proofs.Lookups.{IsPartitioned-from_ascending}
-use Rattle.mailmap_tables.specs.Groups.{email_key}
-use Rattle.mailmap_tables.proofs.search.find_email_last_first.Goals as goal
-
-pub search_last_first-requires-clause-parted : goal.search_last_first-requires-clause-parted
-search_last_first-requires-clause-parted c = IsPartitioned-from_ascending nat_list_cmp_total email_key _ _ c.requires
