@@ -1,15 +1,15 @@
 -- What pruning leaves of a mailmap.
 use Rattle.std.specs.Prelude.{◌≡◌, ◌∷◌, ◌++◌, [], false, List, Some, filter, map}
-use Rattle.std.specs.List.{flat_map}
+use Rattle.std.specs.List.{flat_map, list_any}
 use Rattle.gix_mailmap.specs.Entries.{Mapping}
-use Rattle.gix_mailmap.specs.Findings.{Finding, is_reported_redundant}
+use Rattle.gix_mailmap.specs.Findings.{Finding, has_no_effect}
 use Rattle.gix_mailmap.specs.Folding.{Text}
 use Rattle.gix_mailmap.specs.Positions.{Line, entry, located_lines}
 use Rattle.gix_mailmap.specs.Pruning.{is_left, lines_left, renumbered}
 
--- no line is reported as without effect, and the other findings of the kept lines are there, with their new line numbers
+-- no line is without effect, and the other findings of the kept lines are there, with their new line numbers
 pub record AreFindingsLeft (buffer : Text) (found left : List Finding) : Type 0 where
-  pub none : (line : Line) → is_reported_redundant left line ≡ false
+  pub none : list_any (λ f. has_no_effect f.kind) left ≡ false
   pub others : left ≡ map (renumbered (lines_left buffer found)) (filter (is_left found) found)
 
 -- a text without one of its lines, which has an entry

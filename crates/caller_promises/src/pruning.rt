@@ -11,7 +11,8 @@ ghost use Rattle.caller_promises.specs.Pruned.{AreFindingsLeft, IsWithoutOne};
 
 use gix_mailmap::Snapshot;
 use gix_mailmap::laws::{
-    law_none_left, law_one_answer, law_pruned, law_pruned_findings, law_pruned_for_git, law_unique,
+    law_equal_contacts, law_none_left, law_one_answer, law_pruned, law_pruned_findings,
+    law_pruned_for_git, law_unique,
 };
 use gix_mailmap::verify::{Finding, first_read_otherwise, prune, verify};
 use std::alloc::{AllocError, Global};
@@ -32,6 +33,7 @@ pub fn findings_left<'a>(alloc: Global, pruned: &'a [u8]) -> Result<Vec<Finding<
     ensures { IfOk result (λ left. (buffer : Text) (found : List Found) → IsPruned buffer pruned.now
         → AreFindings (buffer ∷ []) found → AreFindingsLeft buffer found (map finding_of left.items)) }
 {
+    law_equal_contacts();
     law_pruned_findings();
     verify(alloc, &[pruned])
 }
