@@ -3,25 +3,14 @@ use Rattle.std.proofs.Common.{◌≡◌, ◌++◌, ◌∙◌, ◌-◌, ◌+◌, 
 use Rattle.std.specs.Prelude.{IsOkUnless}
 use Rattle.std.specs.Io.KnownBytes.{Appends, Consumes, IsAtEnd}
 use Rattle.std.proofs.KnownBytes.{Appends-nil, Appends-trans, Consumes-nil, Consumes-trans}
-use Rattle.std.proofs.Math.Seq.{take-add}
-use Rattle.std.proofs.lemmas.List.{take_rest}
-use Rattle.command_line.specs.Answering.{AnswersAll, AnswersFront, HasAnswered, LeavesLines, StopsIn}
+use Rattle.mailmap_entries.specs.Folding.{Text}
+use Rattle.mailmap_grammar.specs.LineParts.{AnswersFront, AreInOrder, HasAnswered}
+use Rattle.mailmap_grammar.proofs.LineParts.{front_more, front_none, more_answered, nothing_answered}
+use Rattle.command_line.specs.Answering.{AnswersAll, LeavesLines, StopsIn}
 use Rattle.command_line.specs.Failures.{Failure, Memory, Output}
-use Rattle.command_line.specs.Lines.{EndsLine, HoldsNoFeed}
 use Rattle.command_line.specs.Printing.{PrintsFront}
 use Rattle.command_line.proofs.Printed.{Appends-both, Appends-longer}
-use Rattle.command_line.proofs.Reading.{all_given, ends_after}
-
-abbrev Text : Type 0
-Text = List ℕ
-
-twice_none : (xs : Text) → xs ≡ xs ++ xs → xs ≡ []
-twice_none [] is = refl
-twice_none (x ∷ xs) is = absurd (omega (arith, ap length is, length-append (x ∷ xs) (x ∷ xs)))
-
--- what was taken of a part, and more of its rest
-pub slices : (taken count : ℕ) (part : Text) → take taken part ++ take count (take (length part - taken) (drop taken part)) ≡ take (taken + count) part
-slices taken count part = cc (take_rest part taken, take-add taken count part)
+use Rattle.command_line.proofs.Reading.{all_given}
 
 -- `read` was read, and answered as far as lines ended
 pub record HasReadParts (answers : Text → Text) (kept : Text) (old now before after : Option Text) : Type 0 where
@@ -29,47 +18,24 @@ pub record HasReadParts (answers : Text → Text) (kept : Text) (old now before 
   pub consumed : Consumes old now read
   pub answered : HasAnswered answers [] read kept (Appends before after)
 
-output_failed : {T : Type 0} (answers : Text → Text) (old later before after : Option Text) → PrintsFront (AnswersAll answers old) before after → LeavesLines {T = T} answers old later before after (Err Output)
+output_failed : {T : Type 0} (answers : Text → Text) (old later before after : Option Text)
+    → PrintsFront (AnswersAll answers old) before after
+    → LeavesLines {T = T} answers old later before after (Err Output)
 output_failed answers old later before after broken = record { prints = tt; reads_all = tt; breaks_off = λ _. broken; input_fails = λ of. absurd of; memory_fails = λ is. cc }
 
-module _ (answers : Text → Text) (in_order : (whole more : Text) → EndsLine whole → answers (whole ++ more) ≡ answers whole ++ answers more) where
-  none_answered : answers [] ≡ []
-  none_answered = twice_none (answers []) (in_order [] [] (inl refl))
-
-  -- an empty text answers the start of any bytes
-  pub front_none : (bytes : Text) → AnswersFront answers bytes [] bytes
-  front_none bytes = record { whole = []; ends = inl refl; bytes_are = refl; text_is = sym none_answered }
-
-  front_more : {bytes text rest : Text} (more : Text) {made left : Text} → AnswersFront answers bytes text rest → AnswersFront answers (rest ++ more) made left
-      → AnswersFront answers (bytes ++ more) (text ++ made) left
-  front_more {bytes} {text} {rest} more {made} {left} a b = record {
-    whole = a.whole ++ b.whole;
-    ends = ends_after a.whole b.whole a.ends b.ends;
-    bytes_are = cc (append_assoc a.whole rest more, append_assoc a.whole b.whole left);
-    text_is = cc (in_order a.whole b.whole a.ends);
-  }
-
+module _ (answers : Text → Text) (in_order : AreInOrder answers) where
   -- a text that answers the start of some bytes answers the start of more
-  longer : {bytes made rest : Text} (more : Text) → AnswersFront answers bytes made rest → AnswersFront answers (bytes ++ more) made (rest ++ more)
-  longer {made = made} {rest} more a = rw (append-nil made) at (front_more more a (front_none (rest ++ more)))
+  longer : {bytes made rest : Text} (more : Text) → AnswersFront answers bytes made rest
+      → AnswersFront answers (bytes ++ more) made (rest ++ more)
+  longer {made = made} {rest} more a = rw (append-nil made) at (front_more answers in_order more a (front_none answers in_order (rest ++ more)))
 
-  pub nothing_answered : {kept : Text} {P : Text → Type 0} → HoldsNoFeed kept → P [] → HasAnswered answers kept [] kept P
-  nothing_answered {kept} held none = record { made = []; front = rw (append-nil kept) (front_none kept); no_feed = held; is_made = none }
-
-  module _ {kept xs mid : Text} {P : Text → Type 0} (h : HasAnswered answers kept xs mid P) where
-    both : (ys made rest : Text) → AnswersFront answers (mid ++ ys) made rest → AnswersFront answers (kept ++ (xs ++ ys)) (h.made ++ made) rest
-    both ys made rest f = rw (append_assoc kept xs ys) at (front_more ys h.front f)
-
-    pub more : {ys left : Text} {Q R : Text → Type 0} → ((made : Text) → Q made → R (h.made ++ made)) → HasAnswered answers mid ys left Q → HasAnswered answers kept (xs ++ ys) left R
-    more {ys} {left} join k = record {
-      made = h.made ++ k.made;
-      front = both ys k.made left k.front;
-      no_feed = k.no_feed;
-      is_made = join k.made k.is_made;
-    }
+  both : {kept xs mid : Text} {P : Text → Type 0} (h : HasAnswered answers kept xs mid P) (ys made rest : Text)
+      → AnswersFront answers (mid ++ ys) made rest → AnswersFront answers (kept ++ (xs ++ ys)) (h.made ++ made) rest
+  both {kept} {xs} h ys made rest f = rw (append_assoc kept xs ys) at (front_more answers in_order ys h.front f)
 
   -- more bytes are answered in part after those that are answered and written
-  pub stopped : {kept xs mid : Text} (ys : Text) (before between after : Option Text) (e : Failure) → HasAnswered answers kept xs mid (Appends before between) → StopsIn answers (mid ++ ys) between after e
+  pub stopped : {kept xs mid : Text} (ys : Text) (before between after : Option Text) (e : Failure)
+      → HasAnswered answers kept xs mid (Appends before between) → StopsIn answers (mid ++ ys) between after e
       → StopsIn answers (kept ++ (xs ++ ys)) before after e
   stopped ys before between after Memory h (made, (rest, f), written) =
       (h.made ++ made, (rest, both h ys made rest f), Appends-trans before between after h.made made h.is_made written)
@@ -78,11 +44,14 @@ module _ (answers : Text → Text) (in_order : (whole more : Text) → EndsLine 
   stopped ys before between after _ h stops = absurd stops
 
   -- no more bytes are answered
-  pub stopped_before : {kept xs mid : Text} (ys : Text) (before after : Option Text) → HasAnswered answers kept xs mid (Appends before after) → StopsIn answers (kept ++ (xs ++ ys)) before after Memory
-  stopped_before {mid = mid} ys before after h = stopped ys before after after Memory h ([], (mid ++ ys, front_none (mid ++ ys)), Appends-nil after)
+  pub stopped_before : {kept xs mid : Text} (ys : Text) (before after : Option Text)
+      → HasAnswered answers kept xs mid (Appends before after)
+      → StopsIn answers (kept ++ (xs ++ ys)) before after Memory
+  stopped_before {mid = mid} ys before after h = stopped ys before after after Memory h ([], (mid ++ ys, front_none answers in_order (mid ++ ys)), Appends-nil after)
 
   -- a write of the answers to the first of some bytes fails
-  pub cut : {mid xs left : Text} (ys : Text) (between after : Option Text) {text empty shown : Text} (e : Failure) → e ≡ Output → empty ≡ [] → shown ≡ text → HasAnswered answers mid xs left (λ made. text ≡ empty ++ made)
+  pub cut : {mid xs left : Text} (ys : Text) (between after : Option Text) {text empty shown : Text} (e : Failure)
+      → e ≡ Output → empty ≡ [] → shown ≡ text → HasAnswered answers mid xs left (λ made. text ≡ empty ++ made)
       → (n : ℕ) × Appends between after (take n shown) → StopsIn answers (mid ++ (xs ++ ys)) between after e
   cut {mid} {xs} {left} ys between after e failed none is h (n, written) =
       let said : _ ≡ h.made = is ∙ h.is_made ∙ ap (λ t. t ++ h.made) none in
@@ -91,7 +60,8 @@ module _ (answers : Text → Text) (in_order : (whole more : Text) → EndsLine 
   -- ---- all parts
 
   -- answers to the first lines, and those to what is left, are all answers
-  all_answered : (old now : Option Text) (bytes made rest : Text) → Consumes old now bytes → AnswersFront answers bytes made rest → (later : Text) × AnswersAll answers old (made ++ later)
+  all_answered : (old now : Option Text) (bytes made rest : Text) → Consumes old now bytes
+      → AnswersFront answers bytes made rest → (later : Text) × AnswersAll answers old (made ++ later)
   all_answered None now bytes made rest consumed a = (answers rest, (bytes, tt, cc (in_order a.whole rest a.ends)))
   all_answered (Some x) None bytes made rest consumed a = absurd consumed
   all_answered (Some x) (Some y) bytes made rest consumed a =
@@ -102,11 +72,13 @@ module _ (answers : Text → Text) (in_order : (whole more : Text) → EndsLine 
       consumed : Consumes old later (h.read ++ part)
       consumed = Consumes-trans old now later h.read part h.consumed more_read
 
-      pub one_more : {left : Text} → HasAnswered answers kept part left (Appends between after) → HasReadParts answers left old later before after
-      one_more k = record { read = h.read ++ part; consumed = consumed; answered = more h.answered (λ made w. Appends-trans before between after h.answered.made made h.answered.is_made w) k }
+      pub one_more : {left : Text} → HasAnswered answers kept part left (Appends between after)
+          → HasReadParts answers left old later before after
+      one_more k = record { read = h.read ++ part; consumed = consumed; answered = more_answered answers in_order h.answered (λ made w. Appends-trans before between after h.answered.made made h.answered.is_made w) k }
 
       -- answering a part fails
-      pub part_failed : {T : Type 0} (e : Failure) → StopsIn answers (kept ++ part) between after e → LeavesLines {T = T} answers old later before after (Err e)
+      pub part_failed : {T : Type 0} (e : Failure) → StopsIn answers (kept ++ part) between after e
+          → LeavesLines {T = T} answers old later before after (Err e)
       part_failed Memory stops =
           let all = stopped part before between after Memory h.answered stops in
           record { prints = tt; reads_all = tt; breaks_off = λ is. cc; input_fails = λ of. absurd of; memory_fails = λ _. (all.0, (h.read ++ part, consumed, all.1), all.2) }
@@ -116,7 +88,8 @@ module _ (answers : Text → Text) (in_order : (whole more : Text) → EndsLine 
           output_failed answers old later before after (_, whole.1, Appends-longer before after all.2.0 all.0 whole.0 all.2.1)
       part_failed _ stops = absurd stops
 
-    all_lines : (later : Option Text) → Consumes now later [] → IsAtEnd later → AnswersAll answers old (h.answered.made ++ answers kept)
+    all_lines : (later : Option Text) → Consumes now later [] → IsAtEnd later
+        → AnswersAll answers old (h.answered.made ++ answers kept)
     all_lines later none end = (
       h.read,
       all_given old later h.read (subst (Consumes old later) (append-nil h.read) (Consumes-trans old now later h.read [] h.consumed none)) end,
@@ -124,7 +97,8 @@ module _ (answers : Text → Text) (in_order : (whole more : Text) → EndsLine 
     )
 
     -- a read finds the end of the input, and the answer to a last line without a line feed is written
-    pub ended : {T : Type 0} (later after : Option Text) (r : Result T Failure) → Consumes now later [] → IsAtEnd later → IsOkUnless r Output → OnOk r (Appends between after (answers kept))
+    pub ended : {T : Type 0} (later after : Option Text) (r : Result T Failure) → Consumes now later [] → IsAtEnd later
+        → IsOkUnless r Output → OnOk r (Appends between after (answers kept))
         → OnErr r ((n : ℕ) × Appends between after (take n (answers kept))) → LeavesLines answers old later before after r
     ended later after (Ok x) none end only ok err = record {
       prints = (_, all_lines later none end, Appends-trans before between after h.answered.made (answers kept) h.answered.is_made ok);
@@ -138,8 +112,8 @@ module _ (answers : Text → Text) (in_order : (whole more : Text) → EndsLine 
 
   -- before the first read
   pub begun : {kept : Text} (old before : Option Text) → kept ≡ [] → HasReadParts answers kept old old before before
-  begun old before none = record { read = []; consumed = Consumes-nil old; answered = rw none (nothing_answered tt (Appends-nil before)) }
+  begun old before none = record { read = []; consumed = Consumes-nil old; answered = rw none (nothing_answered answers in_order tt (Appends-nil before)) }
 
   -- memory runs out then
   pub nothing : {T : Type 0} (old before : Option Text) → LeavesLines {T = T} answers old old before before (Err Memory)
-  nothing old before = part_failed (begun old before refl) old before [] (Consumes-nil old) Memory ([], ([], front_none []), Appends-nil before)
+  nothing old before = part_failed (begun old before refl) old before [] (Consumes-nil old) Memory ([], ([], front_none answers in_order []), Appends-nil before)

@@ -2,32 +2,19 @@
 use Rattle.std.proofs.Common.{◌≡◌, ◌⊎◌, ◌∙◌, ◌+◌, ◌-◌, ◌<◌, ℕ, List, [], ◌∷◌, ◌++◌, Option, None, Some, IfSome, add-one, ap, append-nil, append_assoc, arith, drop, inl, inr, length, slice_index, subst, sym, take, take-append-drop}
 use Rattle.std.specs.Io.KnownBytes.{Consumes, IsAtEnd}
 use Rattle.std.proofs.lemmas.Bool.{eqb-true}
-use Rattle.std.proofs.lemmas.List.{get_or_push, length_push, take_rest}
+use Rattle.std.proofs.lemmas.List.{take_rest}
 use Rattle.std.proofs.Math.Seq.{take-suc}
 use Rattle.bstr.specs.Find.{IsLastByte, is_byte}
 use Rattle.bstr.specs.Text.{lines_of}
-use Rattle.bstr.proofs.lemmas.LineLemmas.{lines-append}
 use Rattle.contact_counter.specs.Counts.{Counter, HasCounted}
-use Rattle.command_line.specs.Lines.{EndsLine, HasCountedRead}
-
-pub ends_after : (whole more : List ℕ) → EndsLine whole → EndsLine more → EndsLine (whole ++ more)
-ends_after whole more before (inl none) = subst EndsLine (sym (ap (λ l. whole ++ l) none ∙ append-nil whole)) before
-ends_after whole more before (inr (front, is)) = inr (whole ++ front, ap (λ l. whole ++ l) is ∙ sym (append_assoc whole front (10 ∷ [])))
+use Rattle.mailmap_grammar.proofs.LineParts.{ends_after, lines_of-append}
+use Rattle.command_line.specs.Lines.{HasCountedRead}
 
 -- at the end, everything was read
 pub all_given : (before now : Option (List ℕ)) (bytes : List ℕ) → Consumes before now bytes → IsAtEnd now → IfSome before (λ all. bytes ≡ all)
 all_given None now bytes consumed end = tt
 all_given (Some x) None bytes consumed end = absurd consumed
 all_given (Some x) (Some y) bytes consumed end = sym (consumed ∙ ap (λ l. bytes ++ l) end ∙ append-nil bytes)
-
--- ---- lines after lines
-
-pub lines_of-append : (whole more : List ℕ) → EndsLine whole → lines_of (whole ++ more) ≡ lines_of whole ++ lines_of more
-lines_of-append whole more ends = lines-append (length whole) whole more (omega arith) (last ends)
-  where
-    last : EndsLine whole → (length whole ≡ 0) ⊎ (slice_index whole (length whole - 1) ≡ 10)
-    last (inl none) = inl (ap length none)
-    last (inr (front, is)) = inr (rw is (get_or_push front 10 0 _ (omega (arith, length_push front 10))))
 
 -- ---- parts whose contacts are counted
 

@@ -8,12 +8,12 @@ use Rattle.command_line.specs.Printing.{Prints, PrintsFront}
 -- A run that answers while it reads has written all answers, and has read all of the input. If writing fails, it has
 -- written a prefix of them; if reading fails, the answers to all whole lines read so far; if memory runs out, Lost
 -- describes it.
-pub record LeavesAnswers {T : Type 0} (All Whole : List ℕ → Type 0) (Lost : Type 0)
-    (now before after : Option (List ℕ)) (result : Result T Failure) : Type 0 where
-  pub prints : OnOk result (Prints All before after)
-  pub reads_all : OnOk result (IsAtEnd now)
-  pub breaks_off : IsErrOf result Output → PrintsFront All before after
-  pub input_fails : IfErr result (λ e. IsOfInput e → Prints Whole before after)
+pub record LeavesAnswers {T : Type 0} (IsAll IsWhole : List ℕ → Type 0) (Lost : Type 0)
+    (left old new : Option (List ℕ)) (result : Result T Failure) : Type 0 where
+  pub prints : OnOk result (Prints IsAll old new)
+  pub reads_all : OnOk result (IsAtEnd left)
+  pub breaks_off : IsErrOf result Output → PrintsFront IsAll old new
+  pub input_fails : IfErr result (λ e. IsOfInput e → Prints IsWhole old new)
   pub memory_fails : IsErrOf result Memory → Lost
 
 -- A run that writes one text at its end has written all of it, or a prefix if writing fails. After any other failure it

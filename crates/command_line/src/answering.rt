@@ -1,9 +1,10 @@
 //! Answers the lines of an input while they are read.
 ghost use Rattle.std.specs.Prelude.{◌≡◌, ◌<◌, ◌≤◌, ◌⊎◌, ◌++◌, [], ℕ, List, IfErr, IfOk, OnErr, OnOk, length, take};
 ghost use Rattle.std.specs.Io.KnownBytes.{Appends};
-ghost use Rattle.command_line.specs.Answering.{HasAnswered, LeavesLines, StopsIn};
+ghost use Rattle.mailmap_grammar.specs.LineParts.{AreInOrder, HasAnswered};
+ghost use Rattle.mailmap_grammar.specs.Lines.{HoldsNo};
+ghost use Rattle.command_line.specs.Answering.{LeavesLines, StopsIn};
 ghost use Rattle.command_line.specs.Failures.{IsOfInput};
-ghost use Rattle.command_line.specs.Lines.{EndsLine, HoldsNoFeed};
 
 use crate::failure::Failure;
 use crate::streams::{PART, flush, read_part, write_all, write_unflushed};
@@ -24,7 +25,7 @@ pub trait LineAnswers {
     /// Takes bytes from the start of `part`, appends the answers to all lines that end in these bytes to `text`, and
     /// returns the number of bytes. If it fails, it took nothing, and `text` stays as it was.
     fn push(&mut self, part: &[u8], text: &mut Vec<u8>) -> Result<usize, AllocError>
-        requires { HoldsNoFeed (kept self.old) }
+        requires { HoldsNo 10 (kept self.old) }
         ensures takes { IfOk result (λ taken. (taken ≤ length part.now) × (0 < length part.now → 0 < taken)) }
         ensures answers { IfOk result (λ taken. HasAnswered (answers self.old) (kept self.old) (take taken part.now)
             (kept self.new) (λ made. text.new.items ≡ text.old.items ++ made)) }
@@ -34,12 +35,11 @@ pub trait LineAnswers {
     /// Appends the answer to a last line without a line feed, if there is one. This ends the input: what was kept need
     /// not be forgotten, so nothing is pushed after it.
     fn finish(&mut self, text: &mut Vec<u8>) -> Result<(), AllocError>
-        requires { HoldsNoFeed (kept self.old) }
+        requires { HoldsNo 10 (kept self.old) }
         ensures { OnOk result (text.new.items ≡ text.old.items ++ answers self.old (kept self.old)) };
 
     // the answers to whole lines come before those to the lines after them
-    ghost in_order: { (s : Self) (whole more : List ℕ) → EndsLine whole
-        → answers s (whole ++ more) ≡ answers s whole ++ answers s more };
+    ghost in_order: { (s : Self) → AreInOrder (answers s) };
 }
 
 /// Answers all lines of an input.
@@ -84,7 +84,7 @@ fn answer_part<A: LineAnswers, W: Write>(
     text: &mut Vec<u8>,
     output: &mut W,
 ) -> Result<(), Failure>
-    requires { HoldsNoFeed (A.kept answerer.old) }
+    requires { HoldsNo 10 (A.kept answerer.old) }
     ensures ok { OnOk result (HasAnswered (A.answers answerer.old) (A.kept answerer.old) part.now (A.kept answerer.new)
         (Appends (W.contents output.old) (W.contents output.new))) }
     ensures err { IfErr result (StopsIn (A.answers answerer.old) (A.kept answerer.old ++ part.now)
@@ -101,13 +101,14 @@ fn answer_part<A: LineAnswers, W: Write>(
 }
 
 // Takes lines of a part as `push` does, until the part ends or the text is long enough: `push` may take a single line.
-// If memory runs out after some lines, these are written, and the caller tries the rest again with an empty text.
+// If memory runs out after some lines, these are written, and the caller tries the rest again with an empty text, whose
+// memory may suffice.
 fn push_lines<A: LineAnswers>(
     answerer: &mut A,
     part: &[u8],
     text: &mut Vec<u8>,
 ) -> Result<usize, AllocError>
-    requires { HoldsNoFeed (A.kept answerer.old) }
+    requires { HoldsNo 10 (A.kept answerer.old) }
     ensures takes { IfOk result (λ taken. (taken ≤ length part.now) × (0 < length part.now → 0 < taken)) }
     ensures answers { IfOk result (λ taken. HasAnswered (A.answers answerer.old) (A.kept answerer.old)
         (take taken part.now) (A.kept answerer.new) (λ made. text.new.items ≡ text.old.items ++ made)) }

@@ -14,7 +14,7 @@ use std::marker::Model;
 use std::mem;
 
 // The number of slots: a power of two, because the low bits of a line's hash select its slot.
-const SLOTS: usize = 32768;
+const SLOTS: usize = 16384;
 
 // The length of the longest line that is kept in a slot.
 const LONGEST: usize = 256;
@@ -74,7 +74,7 @@ impl Model for ContactCounter {
     } };
 
     ghost invariant = { λ s. AllByRecursion (λ slot. (n : ℕ) → unless_contact n slot.line.items ≡ []) s.slots.items
-        × (length s.slots.items ≡ 32768) };
+        × (length s.slots.items ≡ 16384) };
 }
 
 impl ContactCounter {

@@ -2,9 +2,9 @@
 use Rattle.std.specs.Prelude.{◌≡◌, ◌<◌, ◌≤◌, ◌++◌, ◌⊎◌, ◌∷◌, ℕ, List, [], length, take, drop}
 use Rattle.mailmap_entries.specs.Entries.{Mapping}
 use Rattle.mailmap_entries.specs.Folding.{Text}
+use Rattle.mailmap_grammar.specs.LineParts.{AnswersFront}
 use Rattle.mailmap_grammar.specs.Lines.{HoldsNo}
 use Rattle.mailmap_snapshot.specs.Contacts.{answers, answers_by}
-use Rattle.mailmap_snapshot.specs.Streams.{AnswersFront}
 
 -- the mappings of a stream, the start of a line that hasn't ended yet, and the answers that haven't been read yet
 pub record Pending : Type 0 where
@@ -26,7 +26,7 @@ pub record HasTakenOf (part : Text) (taken : ℕ) (old new : Pending) : Type 0 w
   pub made : Text
   pub mappings : new.mappings ≡ old.mappings
   pub unread : new.unread ≡ old.unread ++ made
-  pub front : AnswersFront old.mappings (old.kept ++ take taken part) made new.kept
+  pub front : AnswersFront (answers old.mappings) (old.kept ++ take taken part) made new.kept
   pub kept : HoldsNo 10 old.kept → HoldsNo 10 new.kept
 
 -- the kept bytes are answered as a line

@@ -121,6 +121,7 @@ impl<'e, 'a> InOrder<'_, 'e, 'a> {
     }
 }
 
+// An element, with the one equation about it that the proofs of all callers use.
 fn at<T>(entries: &[T], index: usize) -> &T
     requires { index < length entries.now }
     ensures { result.now ≡ slice_index_or entries.now index result.now }

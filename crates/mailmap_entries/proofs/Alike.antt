@@ -19,8 +19,8 @@ same_value h g a k = grind (arith, a.given, a.spellings, a.lasts, a.names, and_t
 pub same_normal : (h g n : List Mapping) → Alike h g → IsNormal h n → IsNormal g n
 same_normal h g n a d = grind (arith, d.keys, a.keys, All-weaker, same_value)
 
-pub same_scan : (h g : List Mapping) (name email : Text) → Alike h g → answer_of h name email ≡ answer_of g name email
-same_scan h g name email a = grind (arith, a.lasts, a.given, a.spellings)
+pub alike_answer : (h g : List Mapping) (name email : Text) → Alike h g → answer_of h name email ≡ answer_of g name email
+alike_answer h g name email a = grind (arith, a.lasts, a.given, a.spellings)
 
 pub alike_itself : (h : List Mapping) → Alike h h
 alike_itself h = search rules

@@ -23,7 +23,7 @@ pub fn law_condense()
 {}
 
 /// A normal list gives the same answers as the mappings that it was made from.
-#[tactic(auto, using(crate::proofs::Alike::same_scan, crate::proofs::Normal::alike_normal))]
+#[tactic(auto, using(crate::proofs::Alike::alike_answer, crate::proofs::Normal::alike_normal))]
 pub fn law_answers()
     ensures { (h n : List Mapping) (name email : Text) → IsNormal h n → answer_of h name email ≡ answer_of n name email }
 {}

@@ -24,7 +24,7 @@ use Rattle.mailmap_entries.specs.Semantics.{answer_of, IsNormal}
 use Rattle.mailmap_redundancy.specs.Origins.{origins, needed, with_spelling}
 use Rattle.mailmap_redundancy.proofs.Giving.{needed_answer}
 use Rattle.mailmap_redundancy.proofs.Sublists.{sublist_map, sublist_trans}
-use Rattle.mailmap_redundancy.proofs.Kept.{one_reduced, some_reduced, reduced_sublist}
+use Rattle.mailmap_redundancy.proofs.Kept.{one_effective, some_effective, effective_sublist}
 use Rattle.mailmap_findings.specs.Explanations.{in_order, needed_positions, position_of}
 use Rattle.mailmap_findings.specs.Findings.{AreFindings, Finding, is_reported_redundant, FindingKind, reported_of_line}
 use Rattle.mailmap_findings.proofs.Pruned.{left_entries, or_false, same_listing, mappings_of_text}
@@ -126,7 +126,7 @@ answered buffers contacts found missing line name email rest are un there is =
     ap located (sym (filter_both (is_reported_redundant found) (λ (l : Line). is_missing l.position) ls))
     ∙ located_filter (λ l. not (is_missing l.position)) stays (λ l e _. refl)
     (filter (λ (l : Line). not (is_reported_redundant found l)) ls)
-    ∙ ap (filter stays) (left_entries buffers found are ∙ one_reduced (located ls) are.kept un.kept are.effective un.effective) in
+    ∙ ap (filter stays) (left_entries buffers found are ∙ one_effective (located ls) are.kept un.kept are.effective un.effective) in
     let stay : AllByRecursion (λ (x : LocatedMapping). stays x ≡ true) (needed (origins un.kept name email)) =
     all_weaker (needed (origins un.kept name email))
     (λ (x : LocatedMapping) among. ap not (ap (list_any (same_position x.position)) un.whole
@@ -141,11 +141,11 @@ answered buffers contacts found missing line name email rest are un there is =
 
 pub some_unneeded : (buffers : List Text) (contacts : Text) → (missing : List Position) × AreUnneeded buffers contacts missing
 some_unneeded buffers contacts =
-    let effective = some_reduced (located (located_lines buffers)) in
+    let effective = some_effective (located (located_lines buffers)) in
     (unneeded effective.0 (whole_lines contacts), record { kept = effective.0; effective = effective.1; whole = refl })
 
 pub one_unneeded : (buffers : List Text) (contacts : Text) (missing other : List Position) → AreUnneeded buffers contacts missing → AreUnneeded buffers contacts other → missing ≡ other
-one_unneeded buffers contacts missing other a b = grind (arith, one_reduced)
+one_unneeded buffers contacts missing other a b = grind (arith, one_effective)
 
 -- ---- texts without these lines
 
@@ -237,11 +237,11 @@ are_remarks buffers contacts fs ps are un =
     let tell : Line → List FindingKind = λ l. reported_of_line h kept l in
     let effective = sublist_filter (λ p. p) (at kept) lines
     (sublist_trans _ _ _ (sublist_map (λ (x : LocatedMapping). x.position) kept (located ls)
-    (reduced_sublist (located ls) kept are.effective)) (located_positions ls))
+    (effective_sublist (located ls) kept are.effective)) (located_positions ls))
     (later_map _ (λ (l : Line). l.position) ls (lines_ascend 0 buffers)) in
     let positions : ps ≡ filter (λ p. has_entry_at kept p && test p) lines = un.whole
     ∙ ap (λ xs. filter (λ p. not (any_needs xs (whole_lines contacts) p)) (at xs))
-    (one_reduced (located ls) un.kept kept un.effective are.effective) ∙ ap (filter test) (sym effective)
+    (one_effective (located ls) un.kept kept un.effective are.effective) ∙ ap (filter test) (sym effective)
     ∙ filter-filter test (λ p. list_any (λ q. same_position q p) (at kept)) lines
     ∙ (λ i. filter (λ p. list_any-map (λ q. same_position q p)
     (λ (x : LocatedMapping). x.position) kept i && test p) lines) in

@@ -19,7 +19,7 @@ use Rattle.std.proofs.Math.Seq.{drop-cons}
 use Rattle.std.proofs.lemmas.List.{drop_all, get_or-map, length-map, map-append}
 use Rattle.mailmap_entries.specs.Folding.{Text}
 use Rattle.mailmap_redundancy.proofs.Giving.{all_filter}
-use Rattle.mailmap_redundancy.proofs.Kept.{reduced_sublist}
+use Rattle.mailmap_redundancy.proofs.Kept.{effective_sublist}
 use Rattle.mailmap_redundancy.proofs.Sublists.{sublist_all, sublist_sorted}
 use Rattle.mailmap_findings.specs.Findings.{AreFindings, AreInOrder, Finding, FindingKind, IsUpTo}
 use Rattle.std.proofs.lemmas.Bool.{cases_lt}
@@ -144,7 +144,7 @@ entries_ascend ls a = sorted (located ls) (later_located (λ p q. position_cmp p
 
 -- the positions of effective entries ascend
 pub kept_ascend : (buffers : List Text) (kept : List LocatedMapping) → AreEffective (located (located_lines buffers)) kept → IsStrictlySortedBy position_cmp (map (λ x. x.position) kept)
-kept_ascend buffers kept effective = grind (arith, sublist_sorted, reduced_sublist, entries_ascend, lines_ascend)
+kept_ascend buffers kept effective = grind (arith, sublist_sorted, effective_sublist, entries_ascend, lines_ascend)
 
 -- ---- findings
 

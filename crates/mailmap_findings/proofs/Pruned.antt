@@ -10,7 +10,7 @@ use Rattle.mailmap_entries.specs.Semantics.{Fields, IsNormal, first, is_accepted
 use Rattle.mailmap_redundancy.specs.Origins.{Origins, origins, git_answer_from}
 use Rattle.mailmap_redundancy.specs.Redundancy.{LocatedMapping, position_cmp, IsPass, done, goes, stays, AreEffective, settled, again, IsSublist, entries, last_position}
 use Rattle.mailmap_redundancy.specs.declared.located.Position.{Position}
-use Rattle.mailmap_redundancy.proofs.Giving.{AreOf, all_filter, moved_entry, moved_origins, origins-moved, origins_are, same_git_scan}
+use Rattle.mailmap_redundancy.proofs.Giving.{AreOf, all_filter, moved_entry, moved_origins, origins-moved, origins_are, same_git_answer}
 use Rattle.mailmap_redundancy.proofs.Positions.{positions_total}
 use Rattle.mailmap_findings.specs.Explanations.{in_order, origin_positions, position_of}
 use Rattle.mailmap_findings.specs.Positions.{Line, located, same_position, entry, has_entry_at, whole_lines, located_from, lines_from, located_lines, located_entry}
@@ -23,7 +23,7 @@ use Rattle.std.proofs.lemmas.List.Folds.{flat_map-map, list_any-append}
 use Rattle.std.proofs.lemmas.Simd.{map-map}
 use Rattle.mailmap_entries.specs.Entries.{Mapping}
 use Rattle.mailmap_grammar.specs.Lines.{mappings_of, strict_reading}
-use Rattle.mailmap_redundancy.proofs.Kept.{reduced_again, reduced_normal, reduced_sublist, last_stays, one_reduced, some_reduced, listing_differs, reduced_scan}
+use Rattle.mailmap_redundancy.proofs.Kept.{effective_again, effective_normal, effective_sublist, last_stays, one_effective, some_effective, listing_differs, effective_answer}
 use Rattle.mailmap_findings.specs.Findings.{IsPruned, is_line_kept, AreFindings, NewContact, Finding, FindingKind, proper_contact, findings, git_reads, has_no_effect, is_reported_redundant, mapped_contact, mapping_positions, read_otherwise, reported_of_contact, reported_of_entry, reported_of_line, reported_of_reading, replaced_contact, first_read_otherwise}
 use Rattle.mailmap_findings.proofs.Read.{mappings_of-located_lines, entry_same, entries-renumbered, texts-located, located_accepted, reading_numbered}
 use Rattle.mailmap_findings.proofs.Concatenated.{joined, joined-whole_lines, are_whole, whole_lines-joined, texts, some_whole, AreWhole}
@@ -195,7 +195,7 @@ module _ (buffer text : Text) (pruned : IsPruned buffer text) where
   text_lines = ap whole_lines pruned.whole ∙ lines_of_text kept_lines kept_whole
 
   pub kept_entries : located kept_lines ≡ pruned.kept
-  kept_entries = grind (arith, located_kept, reduced_sublist, lines_ascend)
+  kept_entries = grind (arith, located_kept, effective_sublist, lines_ascend)
 
   pub text_mappings : mappings_of text ≡ entries pruned.kept
   text_mappings = ap mappings_of pruned.whole ∙ mappings_of_text kept_lines kept_whole ∙ ap entries kept_entries
@@ -207,13 +207,13 @@ module _ (buffer text : Text) (pruned : IsPruned buffer text) where
   own_moved = grind (arith, text_moved, located-moved, kept_entries)
 
   -- no entry of the text is redundant
-  pub text_reduced : AreEffective (located (located_lines (text ∷ []))) (located (located_lines (text ∷ [])))
-  text_reduced = grind (arith, own_moved, effective-moved, reduced_again)
+  pub text_effective : AreEffective (located (located_lines (text ∷ []))) (located (located_lines (text ∷ [])))
+  text_effective = grind (arith, own_moved, effective-moved, effective_again)
 
 -- the same normal lists, whether of all entries or of the effective ones
 pub same_normal : (xs kept : List LocatedMapping) (g h n : List Mapping) → AreEffective xs kept → entries xs ≡ g
     → h ≡ entries kept → IsNormal g n ↔ IsNormal h n
-same_normal xs kept g h n effective all left = grind (arith, reduced_normal)
+same_normal xs kept g h n effective all left = grind (arith, effective_normal)
 
 pub same_pruned_listing : (buffer text : Text) (n : List Mapping) → IsPruned buffer text → IsNormal (mappings_of buffer) n ↔ IsNormal (mappings_of text) n
 same_pruned_listing buffer text n pruned = search (rules, same_normal, mappings_of-one, text_mappings)
@@ -234,7 +234,7 @@ nothing_to_prune buffer text pruned =
     let ls = located_lines (text ∷ []) in
     record {
       kept = located ls;
-      effective = text_reduced buffer text pruned;
+      effective = text_effective buffer text pruned;
       whole = sym (joined-whole_lines text)
           ∙ ap joined (sym (ap texts (one_buffer text) ∙ texts-located 0 1 (whole_lines text)))
           ∙ flat_map-map (λ t. t) (λ (l : Line). l.text) ls
@@ -338,7 +338,7 @@ pub left_lines : (buffers : List Text) (found : List Finding) (are : AreFindings
 left_lines buffers found are = search (rules, filter_alike, reported_lines)
 
 pub left_entries : (buffers : List Text) (found : List Finding) (are : AreFindings buffers found) → located (filter (λ l. not (is_reported_redundant found l)) (located_lines buffers)) ≡ are.kept
-left_entries buffers found are = grind (arith, left_lines, located_kept, reduced_sublist, lines_ascend)
+left_entries buffers found are = grind (arith, left_lines, located_kept, effective_sublist, lines_ascend)
 
 pub same_listing : (buffers : List Text) (found : List Finding) (n : List Mapping) → AreFindings buffers found
     → IsNormal (flat_map mappings_of buffers) n ↔ IsNormal (entries (located (filter (λ l. not (is_reported_redundant found l)) (located_lines buffers)))) n
@@ -349,27 +349,27 @@ same_listing buffers found n are =
 -- pruning keeps exactly the lines that are not reported as without effect
 pub pruned_reported : (buffer text : Text) (found : List Finding) → AreFindings (buffer ∷ []) found → IsPruned buffer text
     → text ≡ flat_map (λ l. l.text) (filter (λ l. not (is_reported_redundant found l)) (located_lines (buffer ∷ [])))
-pruned_reported buffer text found are pruned = grind (arith, one_reduced, left_lines)
+pruned_reported buffer text found are pruned = grind (arith, one_effective, left_lines)
 
 -- ---- the list of findings is unique
 
 pub some_findings : (buffers : List Text) → (found : List Finding) × AreFindings buffers found
 some_findings buffers =
     let ls = located_lines buffers in
-    let effective = some_reduced (located ls) in
+    let effective = some_effective (located ls) in
     (flat_map (findings (entries (located ls)) effective.0) ls, record { kept = effective.0; effective = effective.1; whole = refl })
 
 pub one_findings : (buffers : List Text) (found other : List Finding) → AreFindings buffers found → AreFindings buffers other → found ≡ other
-one_findings buffers found other a b = grind (arith, one_reduced)
+one_findings buffers found other a b = grind (arith, one_effective)
 
 pub some_pruned : (buffer : Text) → (text : Text) × IsPruned buffer text
 some_pruned buffer =
     let ls = located_lines (buffer ∷ []) in
-    let effective = some_reduced (located ls) in
+    let effective = some_effective (located ls) in
     (flat_map (λ (l : Line). l.text) (filter (is_line_kept effective.0) ls), record { kept = effective.0; effective = effective.1; whole = refl })
 
 pub one_pruned : (buffer text other : Text) → IsPruned buffer text → IsPruned buffer other → text ≡ other
-one_pruned buffer text other a b = grind (arith, one_reduced)
+one_pruned buffer text other a b = grind (arith, one_effective)
 
 -- ---- the findings of a pruned text
 
@@ -466,7 +466,7 @@ module _ (buffer text : Text) (pruned : IsPruned buffer text) where
 
   own_answer : (name email : Text) → answer_of (entries own) name email ≡ answer_of whole_history name email
   own_answer name email = ap (λ es. answer_of es name email) (mappings_of-one text ∙ text_mappings buffer text pruned)
-      ∙ reduced_scan (located (located_lines (buffer ∷ []))) pruned.kept name email pruned.effective
+      ∙ effective_answer (located (located_lines (buffer ∷ []))) pruned.kept name email pruned.effective
 
   same_mapped : (c : NewContact) → mapped_contact (entries own) c ≡ mapped_contact whole_history c
   same_mapped c = ap (λ o. replaced_contact (unwrap_or o no_fields) c) (own_answer (unwrap_or c.name []) c.email)
@@ -488,7 +488,7 @@ module _ (buffer text : Text) (pruned : IsPruned buffer text) where
       let there = map (moved_entry (position_among left_ones)) pruned.kept in
       one_findings (text ∷ []) left (flat_map (findings (entries own) there) (located_lines (text ∷ []))) are (record {
         kept = there;
-        effective = subst (AreEffective own) (own_moved buffer text pruned) (text_reduced buffer text pruned);
+        effective = subst (AreEffective own) (own_moved buffer text pruned) (text_effective buffer text pruned);
         whole = refl;
       }) ∙ ap (flat_map (findings (entries own) there)) (text_moved buffer text pruned)
       ∙ all_moved left_ones (entries own) whole_history pruned.kept same_mapped same_moved left_ones
@@ -504,7 +504,7 @@ pub others_stay : (buffer text : Text) (found left : List Finding) → AreFindin
     → left ≡ map (renumbered (lines_left buffer found)) (filter (is_left found) found)
 others_stay buffer text found left are pruned left_are =
     let xs = located (located_lines (buffer ∷ [])) in
-    let same = one_reduced xs pruned.kept are.kept pruned.effective are.effective in
+    let same = one_effective xs pruned.kept are.kept pruned.effective are.effective in
     text_findings buffer text pruned left left_are
     ∙ ap (λ kept. map (renumbered (filter (is_line_kept kept) (located_lines (buffer ∷ []))))
     (flat_map (findings (whole_history buffer text pruned) kept)
@@ -523,7 +523,7 @@ none_dropped kept position (l ∷ ls) all = grind (arith, (none_dropped kept pos
 pub none_redundant : (buffer text : Text) (left : List Finding) (l : Line) → IsPruned buffer text → AreFindings (text ∷ []) left → is_reported_redundant left l ≡ false
 none_redundant buffer text left l pruned are =
     let ls = located_lines (text ∷ []) in
-    let reduced = text_reduced buffer text pruned in
+    let reduced = text_effective buffer text pruned in
     ap (λ fs. is_reported_redundant fs l) (one_findings (text ∷ []) left
     (flat_map (findings (entries (located ls)) (located ls)) ls) are
     (record { kept = located ls; effective = reduced; whole = refl }))
@@ -539,7 +539,7 @@ none_can_go buffer text a c l e n m pruned whole given with_l without =
     let x : LocatedMapping = record { position = l.position; entry = e } in
     let parts : xs ≡ located a ++ x ∷ located c = ap located whole ∙ filter_map-append located_entry a (l ∷ c)
     ∙ ap (λ o. located a ++ cons_option (option_map (λ (y : Mapping). record { position = l.position; entry = y }) o) (located c)) given in
-    listing_differs xs (located a) (located c) x n m (subst (AreEffective xs) parts (text_reduced buffer text pruned))
+    listing_differs xs (located a) (located c) x n m (subst (AreEffective xs) parts (text_effective buffer text pruned))
     (subst (λ h. IsNormal h n) (sym (mappings_of-one text)) with_l)
     (subst (λ ys. IsNormal (entries ys) m) (filter_map-append located_entry a c) without)
 
@@ -604,6 +604,6 @@ module _ (buffer text : Text) (pruned : IsPruned buffer text) (none : first_read
       let of_buffer = alike_normal (mappings_of buffer) n d in
       let of_text = alike_normal (mappings_of text) n ((same_pruned_listing buffer text n pruned).0 d) in
       ap (λ h. git_answer_from h name email) (same_history text none_left)
-      ∙ same_git_scan (mappings_of text) n name email of_text
-      ∙ sym (same_git_scan (mappings_of buffer) n name email of_buffer)
+      ∙ same_git_answer (mappings_of text) n name email of_text
+      ∙ sym (same_git_answer (mappings_of buffer) n name email of_buffer)
       ∙ ap (λ h. git_answer_from h name email) (sym (same_history buffer none))

@@ -7,3 +7,4 @@ pub mod SplitOnce
 pub mod Trimmed
 pub mod Skipped
 pub mod LineFeeds
+pub mod LineParts

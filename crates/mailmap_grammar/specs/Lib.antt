@@ -3,4 +3,5 @@ pub use Rattle.mailmap_entries.specs.Entries
 pub use Rattle.mailmap_entries.specs.Search
 pub mod Trimming
 pub mod Lines
+pub mod LineParts
 pub mod CanonicalText

@@ -12,7 +12,7 @@ use Rattle.mailmap_entries.specs.Semantics.{Fields, Key, fields_with_spelling, f
 use Rattle.mailmap_entries.specs.Alike.{Alike}
 use Rattle.mailmap_redundancy.specs.Origins.{entries_of_email, git_answer_from, git_given, given, origins, last_or_all, last_with, needed, those_that_count, with_spelling, Origins}
 use Rattle.mailmap_redundancy.specs.Redundancy.{AreEffective, LocatedMapping, entries, entries_of_key}
-use Rattle.mailmap_redundancy.proofs.Kept.{located_email, located_key, reduced_accepted, reduced_alike, reduced_scan}
+use Rattle.mailmap_redundancy.proofs.Kept.{located_email, located_key, effective_accepted, effective_alike, effective_answer}
 use Rattle.mailmap_redundancy.proofs.Numbered.{by_cases}
 use Rattle.mailmap_redundancy.proofs.Redundant.{given_last, last_is, last_passes, none_of_key}
 use Rattle.mailmap_redundancy.specs.declared.located.Position.{Position}
@@ -47,7 +47,9 @@ first_of_two None p q some = absurd (true≢false some)
 first_of_two (Some x) p q _ = refl
 
 -- the first entry's spelling counts if no entry sets an email
-spelled : (email : Text) (name : Option Text) (origin head : Option LocatedMapping) → is_some origin ≡ is_some (option_and_then (λ x. x.entry.new_email) origin) → (head ≡ None → (name ≡ None) × (origin ≡ None))
+spelled : (email : Text) (name : Option Text) (origin head : Option LocatedMapping)
+    → is_some origin ≡ is_some (option_and_then (λ x. x.entry.new_email) origin) → (head ≡ None
+    → (name ≡ None) × (origin ≡ None))
     → fields_with_spelling email (record { name = name; email = option_and_then (λ x. x.entry.new_email) origin }) (option_map (λ e. e.old_email) (option_map (λ x. x.entry) head))
     ≡ unless_empty (record {
       name = name;
@@ -66,28 +68,35 @@ head_is : (kept : List LocatedMapping) (email : Text) → AllByRecursion (λ x. 
     → first (of_email (entries kept) email) ≡ option_map (λ x. x.entry) (first (entries_of_email kept email))
 head_is kept email all = search (rules, first-map, located_email, all)
 
-pub origins_answer : (kept : List LocatedMapping) (name email : Text) → AllByRecursion (λ x. is_accepted x.entry ≡ true) kept → answer_of (entries kept) name email ≡ given (origins kept name email) email
+pub origins_answer : (kept : List LocatedMapping) (name email : Text)
+    → AllByRecursion (λ x. is_accepted x.entry ≡ true) kept
+    → answer_of (entries kept) name email ≡ given (origins kept name email) email
 origins_answer kept name email all = search (rules, fields_count, gives, head_is, none_of_key, spelled)
 
-pub reduced_origins : (xs kept : List LocatedMapping) (name email : Text) → AreEffective xs kept → given (origins kept name email) email ≡ answer_of (entries xs) name email
-reduced_origins xs kept name email s = sym (origins_answer kept name email (reduced_accepted xs kept s)) ∙ reduced_scan xs kept name email s
+pub effective_origins : (xs kept : List LocatedMapping) (name email : Text) → AreEffective xs kept
+    → given (origins kept name email) email ≡ answer_of (entries xs) name email
+effective_origins xs kept name email s = sym (origins_answer kept name email (effective_accepted xs kept s)) ∙ effective_answer xs kept name email s
 
 -- ---- git's answer, and which entries there are
 
 -- alike entries have the same answers by git
-pub same_git_scan : (h g : List Mapping) (name email : Text) → Alike h g → git_answer_from h name email ≡ git_answer_from g name email
-same_git_scan h g name email a = search (rules)
+pub same_git_answer : (h g : List Mapping) (name email : Text) → Alike h g
+    → git_answer_from h name email ≡ git_answer_from g name email
+same_git_answer h g name email a = search (rules)
 
 module _ (xs kept : List LocatedMapping) (s : AreEffective xs kept) where
-  pub reduced_git : (name email : Text) → git_given (origins kept name email) ≡ git_answer_from (entries xs) name email
-  reduced_git name email = sym (ap unless_empty (fields_count kept name email (reduced_accepted xs kept s)))
-      ∙ same_git_scan (entries kept) (entries xs) name email (reduced_alike xs kept s)
+  pub effective_git : (name email : Text)
+      → git_given (origins kept name email) ≡ git_answer_from (entries xs) name email
+  effective_git name email = sym (ap unless_empty (fields_count kept name email (effective_accepted xs kept s)))
+      ∙ same_git_answer (entries kept) (entries xs) name email (effective_alike xs kept s)
 
-  pub reduced_last : (email name : Text) → is_some (last (entries_of_key kept (email, Some name))) ≡ is_some (last_fields (entries xs) (email, Some name))
-  reduced_last email name = grind (arith, located_key, reduced_accepted, last-map, is_some-option_map, reduced_alike)
+  pub effective_last : (email name : Text)
+      → is_some (last (entries_of_key kept (email, Some name))) ≡ is_some (last_fields (entries xs) (email, Some name))
+  effective_last email name = grind (arith, located_key, effective_accepted, last-map, is_some-option_map, effective_alike)
 
-  pub reduced_first : (email : Text) → is_some (first (entries_of_email kept email)) ≡ is_some (spelling (entries xs) email)
-  reduced_first email = grind (arith, is_some-option_map, head_is, reduced_accepted, reduced_alike)
+  pub effective_first : (email : Text)
+      → is_some (first (entries_of_email kept email)) ≡ is_some (spelling (entries xs) email)
+  effective_first email = grind (arith, is_some-option_map, head_is, effective_accepted, effective_alike)
 
 -- ---- the answer needs no other entry
 
@@ -104,7 +113,8 @@ module _ {X : Type 0} (p : X → Bool) where
   filter_swapped q [] = refl
   filter_swapped q (x ∷ xs) = grind (arith, filter_swapped q xs)
 
-pub all_filter : {X : Type 0} (P : X → Type 0) (q : X → Bool) (xs : List X) → AllByRecursion P xs → AllByRecursion P (filter q xs)
+pub all_filter : {X : Type 0} (P : X → Type 0) (q : X → Bool) (xs : List X) → AllByRecursion P xs
+    → AllByRecursion P (filter q xs)
 all_filter P q xs a = recursion_from_All P (filter q xs) (All-filter q P xs (All-from_recursion P xs a))
 
 needed_are : {X : Type 0} (P : X → Type 0) (a b c : Option X)
@@ -117,23 +127,32 @@ module _ (p : LocatedMapping → Bool) (kept : List LocatedMapping) (name email 
   Passes x = p x ≡ true
 
   -- dropping entries that aren't needed keeps the last one that sets a field
-  with_left : (f : Mapping → Option Text) (o : Option LocatedMapping) (others : List LocatedMapping) → IfSome (last_with f (last_or_all o others)) Passes → last_with f (last_or_all o (filter p others)) ≡ last_with f (last_or_all o others)
+  with_left : (f : Mapping → Option Text) (o : Option LocatedMapping) (others : List LocatedMapping)
+      → IfSome (last_with f (last_or_all o others)) Passes
+      → last_with f (last_or_all o (filter p others)) ≡ last_with f (last_or_all o others)
   with_left f None others left = search (rules, filter_swapped, last_left)
   with_left f (Some x) others _ = refl
 
   -- an accepted entry that alone counts sets a field, so it is needed
-  alone : (x : LocatedMapping) → is_accepted x.entry ≡ true → IfSome (last_with (λ e. e.new_name) (x ∷ [])) Passes → IfSome (last_with (λ e. e.new_email) (x ∷ [])) Passes → p x ≡ true
+  alone : (x : LocatedMapping) → is_accepted x.entry ≡ true → IfSome (last_with (λ e. e.new_name) (x ∷ [])) Passes
+      → IfSome (last_with (λ e. e.new_email) (x ∷ [])) Passes → p x ≡ true
   alone x good by_name by_email = grind (arith, by_cases)
 
-  named_left : (o : Option LocatedMapping) (others : List LocatedMapping) → IfSome o (λ x. is_accepted x.entry ≡ true) → IfSome (last_with (λ e. e.new_name) (last_or_all o others)) Passes → IfSome (last_with (λ e. e.new_email) (last_or_all o others)) Passes → IfSome o Passes
+  named_left : (o : Option LocatedMapping) (others : List LocatedMapping) → IfSome o (λ x. is_accepted x.entry ≡ true)
+      → IfSome (last_with (λ e. e.new_name) (last_or_all o others)) Passes
+      → IfSome (last_with (λ e. e.new_email) (last_or_all o others)) Passes → IfSome o Passes
   named_left None others _ _ _ = tt
   named_left (Some x) others good by_name by_email = alone x good by_name by_email
 
-  with_spelling_left : (n g : Option LocatedMapping) (l : List LocatedMapping) → IfSome (with_spelling n g (first l)).spelling Passes → with_spelling n g (first (filter p l)) ≡ with_spelling n g (first l)
+  with_spelling_left : (n g : Option LocatedMapping) (l : List LocatedMapping)
+      → IfSome (with_spelling n g (first l)).spelling Passes
+      → with_spelling n g (first (filter p l)) ≡ with_spelling n g (first l)
   with_spelling_left n None l left = ap (with_spelling n None) (first_left p l left)
   with_spelling_left n (Some x) l _ = refl
 
-  pub origins_left : AllByRecursion (λ x. is_accepted x.entry ≡ true) kept → AllByRecursion Passes (needed (origins kept name email)) → origins (filter p kept) name email ≡ origins kept name email
+  pub origins_left : AllByRecursion (λ x. is_accepted x.entry ≡ true) kept
+      → AllByRecursion Passes (needed (origins kept name email))
+      → origins (filter p kept) name email ≡ origins kept name email
   origins_left all left =
       let g = origins kept name email in
       let named : List LocatedMapping = entries_of_key kept (folded email, Some (folded name)) in
@@ -149,9 +168,10 @@ module _ (p : LocatedMapping → Bool) (kept : List LocatedMapping) (name email 
       search (rules, filter_swapped)
 
 -- the answer from the needed entries alone
-pub needed_answer : (p : LocatedMapping → Bool) (xs kept : List LocatedMapping) (name email : Text) → AreEffective xs kept → AllByRecursion (λ x. p x ≡ true) (needed (origins kept name email))
+pub needed_answer : (p : LocatedMapping → Bool) (xs kept : List LocatedMapping) (name email : Text)
+    → AreEffective xs kept → AllByRecursion (λ x. p x ≡ true) (needed (origins kept name email))
     → answer_of (entries (filter p kept)) name email ≡ answer_of (entries xs) name email
-needed_answer p xs kept name email s left = search (rules, all_filter, origins_answer, origins_left, reduced_accepted, reduced_origins)
+needed_answer p xs kept name email s left = search (rules, all_filter, origins_answer, origins_left, effective_accepted, effective_origins)
 
 -- ---- entries at other positions
 
@@ -165,43 +185,52 @@ module _ (move : Position → Position) where
   key-moved : (xs : List LocatedMapping) (k : Key) → entries_of_key (map mv xs) k ≡ map mv (entries_of_key xs k)
   key-moved xs k = filter-map (λ x. eq_by_cmp key_cmp k (key x.entry)) mv xs
 
-  email-moved : (xs : List LocatedMapping) (email : Text) → entries_of_email (map mv xs) email ≡ map mv (entries_of_email xs email)
+  email-moved : (xs : List LocatedMapping) (email : Text)
+      → entries_of_email (map mv xs) email ≡ map mv (entries_of_email xs email)
   email-moved xs email = filter-map (λ x. eq_by_cmp text_cmp email (folded x.entry.old_email)) mv xs
 
-  with-moved : (field : Mapping → Option Text) (xs : List LocatedMapping) → last_with field (map mv xs) ≡ option_map mv (last_with field xs)
+  with-moved : (field : Mapping → Option Text) (xs : List LocatedMapping)
+      → last_with field (map mv xs) ≡ option_map mv (last_with field xs)
   with-moved field xs = search (rules, filter-map, last-map)
 
-  all-moved : (o : Option LocatedMapping) (xs : List LocatedMapping) → last_or_all (option_map mv o) (map mv xs) ≡ map mv (last_or_all o xs)
+  all-moved : (o : Option LocatedMapping) (xs : List LocatedMapping)
+      → last_or_all (option_map mv o) (map mv xs) ≡ map mv (last_or_all o xs)
   all-moved None xs = refl
   all-moved (Some x) xs = refl
 
-  those-moved : (xs : List LocatedMapping) (name email : Text) → those_that_count (map mv xs) name email ≡ map mv (those_that_count xs name email)
+  those-moved : (xs : List LocatedMapping) (name email : Text)
+      → those_that_count (map mv xs) name email ≡ map mv (those_that_count xs name email)
   those-moved xs name email = grind (arith, key-moved, last-map, all-moved)
 
   abbrev pub moved_origins : Origins → Origins
   moved_origins g = record { name = option_map mv g.name; email = option_map mv g.email; spelling = option_map mv g.spelling }
 
-  spelling-moved : (name email first : Option LocatedMapping) → with_spelling (option_map mv name) (option_map mv email) (option_map mv first) ≡ moved_origins (with_spelling name email first)
+  spelling-moved : (name email first : Option LocatedMapping)
+      → with_spelling (option_map mv name) (option_map mv email) (option_map mv first) ≡ moved_origins (with_spelling name email first)
   spelling-moved name None first = refl
   spelling-moved name (Some x) first = refl
 
-  pub origins-moved : (xs : List LocatedMapping) (name email : Text) → origins (map mv xs) name email ≡ moved_origins (origins xs name email)
+  pub origins-moved : (xs : List LocatedMapping) (name email : Text)
+      → origins (map mv xs) name email ≡ moved_origins (origins xs name email)
   origins-moved xs name email = grind (arith, email-moved, first-map, those-moved, with-moved, spelling-moved)
 
 -- ---- the entries behind an answer are among those that it is made of
 
 module _ (P : LocatedMapping → Type 0) where
-  either : (o : Option LocatedMapping) (xs : List LocatedMapping) → IfSome o P → AllByRecursion P xs → AllByRecursion P (last_or_all o xs)
+  either : (o : Option LocatedMapping) (xs : List LocatedMapping) → IfSome o P → AllByRecursion P xs
+      → AllByRecursion P (last_or_all o xs)
   either None xs is all = all
   either (Some x) xs is all = (is, tt)
 
-  those_are : (xs : List LocatedMapping) (name email : Text) → AllByRecursion P xs → AllByRecursion P (those_that_count xs name email)
+  those_are : (xs : List LocatedMapping) (name email : Text) → AllByRecursion P xs
+      → AllByRecursion P (those_that_count xs name email)
   those_are xs name email all = grind (arith, either, last_is, all_filter)
 
   abbrev pub AreOf : Origins → Type 0
   AreOf g = IfSome g.name P × IfSome g.email P × IfSome g.spelling P
 
-  spelling_is : (email first : Option LocatedMapping) → IfSome first P → IfSome (if is_some email then None else first) P
+  spelling_is : (email first : Option LocatedMapping) → IfSome first P
+      → IfSome (if is_some email then None else first) P
   spelling_is None first is = is
   spelling_is (Some x) first is = tt
 

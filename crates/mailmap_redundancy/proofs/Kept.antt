@@ -12,7 +12,7 @@ use Rattle.mailmap_entries.specs.Entries.{Mapping}
 use Rattle.mailmap_entries.specs.Folding.{Text, folded, text_cmp}
 use Rattle.mailmap_entries.specs.Semantics.{IsNormal, Key, key, key_cmp, first, last, is_accepted, accepted, has_key, answer_of, of_email, of_key}
 use Rattle.mailmap_entries.specs.Alike.{Alike}
-use Rattle.mailmap_entries.proofs.Alike.{alike_back, same_scan}
+use Rattle.mailmap_entries.proofs.Alike.{alike_back, alike_answer}
 use Rattle.mailmap_entries.proofs.Exists.{normal, is_normal}
 use Rattle.mailmap_entries.proofs.Joined.{alike_trans}
 use Rattle.mailmap_entries.proofs.Keys.{keys_total, keys_exact}
@@ -28,7 +28,8 @@ use Rattle.std.proofs.lemmas.Map.Lookups.{exact_bytes}
 use Rattle.std.proofs.lemmas.Map.Views.{tells_apart}
 
 -- moving an entry from the remaining ones to the kept ones
-pub entries_kept : (kept : LocatedMappings) (x : LocatedMapping) (xs : LocatedMappings) → entries (kept ++ x ∷ []) ++ entries xs ≡ entries kept ++ x.entry ∷ entries xs
+pub entries_kept : (kept : LocatedMappings) (x : LocatedMapping) (xs : LocatedMappings)
+    → entries (kept ++ x ∷ []) ++ entries xs ≡ entries kept ++ x.entry ∷ entries xs
 entries_kept kept x xs = search (rules, append_assoc, map-append)
 
 -- ---- accepted entries of a key and of an email
@@ -45,24 +46,27 @@ module _ (kept : LocatedMappings) (all : AllByRecursion (λ x. is_accepted x.ent
 
 -- ---- the normal list is the same
 
-pass_normal : (kept xs out : LocatedMappings) (n : List Mapping) → IsPass kept xs out → IsNormal (entries kept ++ entries xs) n ↔ IsNormal (entries out) n
+pass_normal : (kept xs out : LocatedMappings) (n : List Mapping) → IsPass kept xs out
+    → IsNormal (entries kept ++ entries xs) n ↔ IsNormal (entries out) n
 pass_normal _ _ _ n (done kept) = search (rules, append-nil)
 pass_normal _ _ _ n (goes kept x xs out redundant p) = search (rules, (pass_normal kept xs out n p))
 pass_normal _ _ _ n (stays kept x xs out busy p) = search (rules, entries_kept, (pass_normal (kept ++ x ∷ []) xs out n p))
 
-pub reduced_normal : (xs kept : LocatedMappings) (n : List Mapping) → AreEffective xs kept → IsNormal (entries xs) n ↔ IsNormal (entries kept) n
-reduced_normal _ _ n (settled xs p) = (λ d. d, λ d. d)
-reduced_normal _ _ n (again xs some kept p s) = search (rules, pass_normal, (reduced_normal some kept n s))
+pub effective_normal : (xs kept : LocatedMappings) (n : List Mapping) → AreEffective xs kept
+    → IsNormal (entries xs) n ↔ IsNormal (entries kept) n
+effective_normal _ _ n (settled xs p) = (λ d. d, λ d. d)
+effective_normal _ _ n (again xs some kept p s) = search (rules, pass_normal, (effective_normal some kept n s))
 
 -- effective entries give the same answers
-pub reduced_alike : (xs kept : LocatedMappings) → AreEffective xs kept → Alike (entries kept) (entries xs)
-reduced_alike xs kept s =
+pub effective_alike : (xs kept : LocatedMappings) → AreEffective xs kept → Alike (entries kept) (entries xs)
+effective_alike xs kept s =
     let d = is_normal (entries xs) in
-    let d' = (reduced_normal xs kept (normal (entries xs)) s).0 d in
+    let d' = (effective_normal xs kept (normal (entries xs)) s).0 d in
     search (rules, alike_trans, alike_normal, alike_back)
 
-pub reduced_scan : (xs kept : LocatedMappings) (name email : Text) → AreEffective xs kept → answer_of (entries kept) name email ≡ answer_of (entries xs) name email
-reduced_scan xs kept name email s = same_scan (entries kept) (entries xs) name email (reduced_alike xs kept s)
+pub effective_answer : (xs kept : LocatedMappings) (name email : Text) → AreEffective xs kept
+    → answer_of (entries kept) name email ≡ answer_of (entries xs) name email
+effective_answer xs kept name email s = alike_answer (entries kept) (entries xs) name email (effective_alike xs kept s)
 
 -- ---- a pass that drops nothing
 
@@ -77,25 +81,29 @@ NoneRedundant kept [] = Unit {0}
 NoneRedundant kept (x ∷ xs) = (IsRedundant (entries kept) x.entry (entries xs) → ⊥) × NoneRedundant (kept ++ x ∷ []) xs
 
 -- a pass that shortens nothing dropped nothing
-pub pass_whole : (kept xs out : LocatedMappings) → IsPass kept xs out → length kept + length xs ≤ length out → (out ≡ kept ++ xs) × NoneRedundant kept xs
+pub pass_whole : (kept xs out : LocatedMappings) → IsPass kept xs out → length kept + length xs ≤ length out
+    → (out ≡ kept ++ xs) × NoneRedundant kept xs
 pass_whole _ _ _ (done kept) long = (sym (append-nil kept), tt)
 pass_whole _ _ _ (goes kept x xs out redundant p) long = absurd (omega (arith, pass_length kept xs out p, long))
 pass_whole _ _ _ (stays kept x xs out busy p) long =
     let rest = pass_whole (kept ++ x ∷ []) xs out p (omega (arith, long, length-append kept (x ∷ []))) in
     (rest.0 ∙ append_assoc kept (x ∷ []) xs, (busy, rest.1))
 
-reduced_none_redundant : (xs kept : LocatedMappings) → AreEffective xs kept → NoneRedundant [] kept
-reduced_none_redundant _ _ (settled xs p) = (pass_whole [] xs xs p (omega arith)).1
-reduced_none_redundant _ _ (again xs some kept p s) = reduced_none_redundant some kept s
+effective_none_redundant : (xs kept : LocatedMappings) → AreEffective xs kept → NoneRedundant [] kept
+effective_none_redundant _ _ (settled xs p) = (pass_whole [] xs xs p (omega arith)).1
+effective_none_redundant _ _ (again xs some kept p s) = effective_none_redundant some kept s
 
-none_redundant_at : (kept a : LocatedMappings) (x : LocatedMapping) (c : LocatedMappings) → NoneRedundant kept (a ++ x ∷ c) → IsRedundant (entries (kept ++ a)) x.entry (entries c) → ⊥
+none_redundant_at : (kept a : LocatedMappings) (x : LocatedMapping) (c : LocatedMappings)
+    → NoneRedundant kept (a ++ x ∷ c) → IsRedundant (entries (kept ++ a)) x.entry (entries c) → ⊥
 none_redundant_at kept [] x c none redundant = search (rules, append-nil)
 none_redundant_at kept (y ∷ a) x c none redundant = none_redundant_at (kept ++ y ∷ []) a x c none.1 (subst (λ h. IsRedundant (entries h) x.entry (entries c)) (sym (append_assoc kept (y ∷ []) a)) redundant)
 
-pub reduced_accepted : (xs kept : LocatedMappings) → AreEffective xs kept → AllByRecursion (λ x. is_accepted x.entry ≡ true) kept
-reduced_accepted xs kept s = by [] kept (reduced_none_redundant xs kept s)
+pub effective_accepted : (xs kept : LocatedMappings) → AreEffective xs kept
+    → AllByRecursion (λ x. is_accepted x.entry ≡ true) kept
+effective_accepted xs kept s = by [] kept (effective_none_redundant xs kept s)
   where
-    by : (before after : LocatedMappings) → NoneRedundant before after → AllByRecursion (λ x. is_accepted x.entry ≡ true) after
+    by : (before after : LocatedMappings) → NoneRedundant before after
+        → AllByRecursion (λ x. is_accepted x.entry ≡ true) after
     by before [] none = tt
     by before (x ∷ after) none = (
       ⊎_elim (λ good. good) (λ bad. absurd (none.0 (unaccepted_redundant (entries before) x.entry (entries after) bad)))
@@ -103,13 +111,15 @@ reduced_accepted xs kept s = by [] kept (reduced_none_redundant xs kept s)
       by (before ++ x ∷ []) after none.1,
     )
 
-pub none_can_go : (xs a c : LocatedMappings) (x : LocatedMapping) → AreEffective xs (a ++ x ∷ c) → IsRedundant (entries a) x.entry (entries c) → ⊥
-none_can_go xs a c x s = none_redundant_at [] a x c (reduced_none_redundant xs (a ++ x ∷ c) s)
+pub none_can_go : (xs a c : LocatedMappings) (x : LocatedMapping) → AreEffective xs (a ++ x ∷ c)
+    → IsRedundant (entries a) x.entry (entries c) → ⊥
+none_can_go xs a c x s = none_redundant_at [] a x c (effective_none_redundant xs (a ++ x ∷ c) s)
 
-pub listing_differs : (xs a c : LocatedMappings) (x : LocatedMapping) (n m : List Mapping) → AreEffective xs (a ++ x ∷ c) → IsNormal (entries xs) n → IsNormal (entries (a ++ c)) m → n ≡ m → ⊥
+pub listing_differs : (xs a c : LocatedMappings) (x : LocatedMapping) (n m : List Mapping)
+    → AreEffective xs (a ++ x ∷ c) → IsNormal (entries xs) n → IsNormal (entries (a ++ c)) m → n ≡ m → ⊥
 listing_differs xs a c x n m s d d' same =
     let with_x : IsNormal (entries a ++ x.entry ∷ entries c) n =
-    rw (← map-append (λ (y : LocatedMapping). y.entry) a (x ∷ c)) ((reduced_normal xs (a ++ x ∷ c) n s).0 d) in
+    rw (← map-append (λ (y : LocatedMapping). y.entry) a (x ∷ c)) ((effective_normal xs (a ++ x ∷ c) n s).0 d) in
     let without : IsNormal (entries a ++ entries c) n =
     rw (same, ← map-append (λ (y : LocatedMapping). y.entry) a c) d' in
     none_can_go xs a c x s (λ l. (
@@ -124,21 +134,24 @@ pass_sublist _ _ _ ys (done kept) s = subst (IsSublist kept) (sym (append-nil ys
 pass_sublist _ _ _ ys (goes kept x xs out redundant p) s = search (rules, append_assoc, sublist_skip, (pass_sublist kept xs out (ys ++ x ∷ []) p (sublist_skip kept ys x s)))
 pass_sublist _ _ _ ys (stays kept x xs out busy p) s = search (rules, append_assoc, sublist_keep, (pass_sublist (kept ++ x ∷ []) xs out (ys ++ x ∷ []) p (sublist_keep kept ys x s)))
 
-pub reduced_sublist : (xs kept : LocatedMappings) → AreEffective xs kept → IsSublist kept xs
-reduced_sublist _ _ (settled xs p) = sublist_itself xs
-reduced_sublist _ _ (again xs some kept p s) = sublist_trans kept some xs (reduced_sublist some kept s) (pass_sublist [] xs some [] p (sublist_itself []))
+pub effective_sublist : (xs kept : LocatedMappings) → AreEffective xs kept → IsSublist kept xs
+effective_sublist _ _ (settled xs p) = sublist_itself xs
+effective_sublist _ _ (again xs some kept p s) = sublist_trans kept some xs (effective_sublist some kept s) (pass_sublist [] xs some [] p (sublist_itself []))
 
 -- ---- each key keeps an entry
 
-pub reduced_keys : (xs kept : LocatedMappings) (k : Key) → AreEffective xs kept → has_key (accepted (entries kept)) k ≡ has_key (accepted (entries xs)) k
-reduced_keys xs kept k s =
+pub effective_keys : (xs kept : LocatedMappings) (k : Key) → AreEffective xs kept
+    → has_key (accepted (entries kept)) k ≡ has_key (accepted (entries xs)) k
+effective_keys xs kept k s =
     let d = is_normal (entries xs) in
-    sym (((reduced_normal xs kept (normal (entries xs)) s).0 d).keys k) ∙ d.keys k
+    sym (((effective_normal xs kept (normal (entries xs)) s).0 d).keys k) ∙ d.keys k
 
-one_more : (e : Mapping) (h : List Mapping) (k : Key) → has_key (accepted h) k ≡ true → has_key (accepted (e ∷ h)) k ≡ true
+one_more : (e : Mapping) (h : List Mapping) (k : Key) → has_key (accepted h) k ≡ true
+    → has_key (accepted (e ∷ h)) k ≡ true
 one_more e h k has = search (rules, or_right)
 
-own_there : (P : Key → Type 0) (xs : LocatedMappings) → ((k : Key) → has_key (accepted (entries xs)) k ≡ true → P k) → AllByRecursion (λ x. is_accepted x.entry ≡ true → P (key x.entry)) xs
+own_there : (P : Key → Type 0) (xs : LocatedMappings) → ((k : Key) → has_key (accepted (entries xs)) k ≡ true → P k)
+    → AllByRecursion (λ x. is_accepted x.entry ≡ true → P (key x.entry)) xs
 own_there P [] f = tt
 own_there P (x ∷ xs) f = (
   λ good. f (key x.entry) (ap (λ b. has_key (cond b (x.entry ∷ accepted (entries xs)) (accepted (entries xs))) (key x.entry)) good ∙ ap (λ o. is_eq o || has_key (accepted (entries xs)) (key x.entry)) (tied_itself keys_total (key x.entry))),
@@ -150,11 +163,12 @@ last_there : (kept : LocatedMappings) (k : Key) → AllByRecursion (λ x. is_acc
 last_there kept k all = sym (is_some-option_map _ (last (entries_of_key kept k)))
     ∙ ap (λ l. is_some (last (entries_of_key l k))) (sym (all_good kept all)) ∙ sym (there_by kept k)
 
-pub last_stays : (xs kept : LocatedMappings) (x : LocatedMapping) → AreEffective xs kept → Contains xs x → is_accepted x.entry ≡ true → is_some (last_position kept (key x.entry)) ≡ true
+pub last_stays : (xs kept : LocatedMappings) (x : LocatedMapping) → AreEffective xs kept → Contains xs x
+    → is_accepted x.entry ≡ true → is_some (last_position kept (key x.entry)) ≡ true
 last_stays xs kept x s =
     let stays : LocatedMapping → Type 0 = λ y. is_accepted y.entry ≡ true → is_some (last_position kept (key y.entry)) ≡ true in
     All-contains stays xs x (All-from_recursion stays xs (own_there (λ k. is_some (last_position kept k) ≡ true) xs
-    (λ k has. last_there kept k (reduced_accepted xs kept s) ∙ reduced_keys xs kept k s ∙ has)))
+    (λ k has. last_there kept k (effective_accepted xs kept s) ∙ effective_keys xs kept k s ∙ has)))
 
 -- ---- the effective entries are unique
 
@@ -166,20 +180,20 @@ same_pass _ _ _ _ (stays kept x xs out busy p) (goes _ _ _ other redundant q) = 
 same_pass _ _ _ _ (stays kept x xs out _ p) (stays _ _ _ other _ q) = same_pass (kept ++ x ∷ []) xs out other p q
 
 -- a pass that drops nothing is the last one
-reduced_stays : (xs kept : LocatedMappings) → AreEffective xs kept → IsPass [] xs xs → kept ≡ xs
-reduced_stays _ _ (settled xs _) p = refl
-reduced_stays _ _ (again xs some kept q s) p =
+effective_stays : (xs kept : LocatedMappings) → AreEffective xs kept → IsPass [] xs xs → kept ≡ xs
+effective_stays _ _ (settled xs _) p = refl
+effective_stays _ _ (again xs some kept q s) p =
     let same = same_pass [] xs some xs q p in
-    reduced_stays some kept s (subst (λ l. IsPass [] l l) (sym same) p) ∙ same
+    effective_stays some kept s (subst (λ l. IsPass [] l l) (sym same) p) ∙ same
 
-pub one_reduced : (xs kept other : LocatedMappings) → AreEffective xs kept → AreEffective xs other → kept ≡ other
-one_reduced _ _ other (settled xs p) s = sym (reduced_stays xs other s p)
-one_reduced _ _ _ (again xs some kept p s) (settled _ q) = reduced_stays xs kept (again xs some kept p s) q
-one_reduced _ _ _ (again xs some kept p s) (again _ some' other q t) = one_reduced some kept other s (subst (λ l. AreEffective l other) (same_pass [] xs some' some q p) t)
+pub one_effective : (xs kept other : LocatedMappings) → AreEffective xs kept → AreEffective xs other → kept ≡ other
+one_effective _ _ other (settled xs p) s = sym (effective_stays xs other s p)
+one_effective _ _ _ (again xs some kept p s) (settled _ q) = effective_stays xs kept (again xs some kept p s) q
+one_effective _ _ _ (again xs some kept p s) (again _ some' other q t) = one_effective some kept other s (subst (λ l. AreEffective l other) (same_pass [] xs some' some q p) t)
 
-pub reduced_again : (xs kept : LocatedMappings) → AreEffective xs kept → AreEffective kept kept
-reduced_again _ _ (settled xs p) = settled xs p
-reduced_again _ _ (again xs some kept p s) = reduced_again some kept s
+pub effective_again : (xs kept : LocatedMappings) → AreEffective xs kept → AreEffective kept kept
+effective_again _ _ (settled xs p) = settled xs p
+effective_again _ _ (again xs some kept p s) = effective_again some kept s
 
 pub some_pass : (kept xs : LocatedMappings) → (out : LocatedMappings) × IsPass kept xs out
 some_pass kept [] = (kept, done kept)
@@ -245,7 +259,8 @@ carries ps pre ps' ss ss' es es' fs fs' is fewer keyed mailed = record {
   spelled = λ none. let both = mailed (no_first es none) in (ap first both.0, ap first both.1);
 }
   where
-    some_field : (p : LocatedMapping → Bool) → is_some (last (filter p ss')) ≡ true → is_some (last (filter p ss)) ≡ true
+    some_field : (p : LocatedMapping → Bool) → is_some (last (filter p ss')) ≡ true
+        → is_some (last (filter p ss)) ≡ true
     some_field p some = any_passes p ss ∙ fewer p (sym (any_passes p ss') ∙ some)
 
 -- ---- the entries kept in one pass and in the next
@@ -468,13 +483,14 @@ fourth_drops_none xs a b c p q r =
     walk : (xs out : LocatedMappings) → IsPass [] xs out → Walks Any [] xs out
     walk xs out p = let w = walk_of [] xs out p in subst (Walks Any [] xs) (sym w.1) w.2
 
-pub reduced_by_three : (xs a b c : LocatedMappings) → IsPass [] xs a → IsPass [] a b → IsPass [] b c → AreEffective xs c
-reduced_by_three xs a b c p q r =
+pub effective_by_three : (xs a b c : LocatedMappings) → IsPass [] xs a → IsPass [] a b → IsPass [] b c
+    → AreEffective xs c
+effective_by_three xs a b c p q r =
     again xs a c p (again a b c q (again b c c r (settled c (fourth_drops_none xs a b c p q r))))
 
-pub some_reduced : (xs : LocatedMappings) → (kept : LocatedMappings) × AreEffective xs kept
-some_reduced xs =
+pub some_effective : (xs : LocatedMappings) → (kept : LocatedMappings) × AreEffective xs kept
+some_effective xs =
     let a = some_pass [] xs in
     let b = some_pass [] a.0 in
     let c = some_pass [] b.0 in
-    (c.0, reduced_by_three xs a.0 b.0 c.0 a.1 b.1 c.1)
+    (c.0, effective_by_three xs a.0 b.0 c.0 a.1 b.1 c.1)

@@ -16,7 +16,7 @@ use Rattle.mailmap_entries.specs.Entries.{Mapping, mapping_of}
 use Rattle.mailmap_entries.specs.Folding.{Text, text_cmp}
 use Rattle.mailmap_entries.specs.Semantics.{Key, is_accepted, key, key_cmp}
 use Rattle.mailmap_entries.proofs.Keys.{keys_total, keys_exact}
-use Rattle.mailmap_redundancy.specs.Numbers.{IsNumber, AreAscending, IsPushed, IsReached, email_key, last_key, IsNumbered, entry_of, located_entry_of, mappings}
+use Rattle.mailmap_redundancy.specs.Numbers.{IsNumber, AreAscending, IsPushed, IsNotBelowLast, email_key, last_key, IsNumbered, numbered_mapping, located_entry_of, located_mappings}
 use Rattle.std.proofs.lemmas.List.{drop_more, length-map, get_or-map, get_or-set_other}
 use Rattle.std.proofs.lemmas.List.FromFn.{length-enumerate_from, get_or-enumerate_from}
 use Rattle.std.proofs.Math.Seq.{map-set_same}
@@ -112,12 +112,12 @@ keeps ks ks' k (Some n) p l i is = subst (λ m. IsNumber m l i) (sym p.0) (kept_
 -- the last key has the email of k, whose key has this number, and isn't above k
 pub record HasEmail (ks : List Key) (email : ℕ) (k : Key) : Type 0 where
   pub so : AreAscending ks email
-  pub reached : IsReached ks k
+  pub reached : IsNotBelowLast ks k
   pub last : (l : Key) × (last_key ks ≡ Some l) × (l.0 ≡ k.0)
 
 -- after pushing the key of its email
 pub email_pushed : (ks ks' : List Key) (email : ℕ) (k : Key) (number : Option ℕ) → AreAscending ks email
-    → IsReached ks k → IsPushed ks (email_key k.0) number ks' → HasEmail ks' (unwrap_or number email) k
+    → IsNotBelowLast ks k → IsPushed ks (email_key k.0) number ks' → HasEmail ks' (unwrap_or number email) k
 email_pushed ks ks' email k None so reached p = grind (arith, so, p, same_email, reached)
 email_pushed ks ks' email k (Some n) so reached p = rw p.0 (record {
   so = record {
@@ -170,14 +170,14 @@ module _ (ms : List Mapping) (ps : List Indexed) (moved : IsPermutation (enumera
 -- ---- the loop
 
 abbrev pub HasNumbers : List Key → Key → NumberedEntry → Type 0
-HasNumbers keys k x = IsNumber keys k x.key × IsNumber keys (email_key k.0) x.email
+HasNumbers keys k x = IsNumber keys k x.key_number × IsNumber keys (email_key k.0) x.email_number
 
 -- Before position i of the order: the keys are those of the earlier entries, whose rows are numbered, and none of the
 -- others is below them.
 pub record IsWalk (history : List LocatedEntry) (order : List IndexedEntry) (i : ℕ) (keys : List Key) (email : ℕ)
     (rows : List NumberedEntry) : Type 0 where
   pub sorted : IsSorted (said history) (map indexed_mapping order)
-  pub located : mappings rows ≡ map located_of history
+  pub located : located_mappings rows ≡ map located_of history
   pub keyed : AreAscending keys email
   pub ascending : IsAscending key_cmp (option_to_list (last_key keys)
       ++ map (λ p. key p.1) (drop i (map indexed_mapping order)))
@@ -219,13 +219,13 @@ module _ (history : List LocatedEntry) (order : List IndexedEntry) (i : ℕ) (ke
   ascends = subst (λ l. IsAscending key_cmp (option_to_list (last_key keys) ++ map (λ q. key q.1) l))
       (drop_more ps i p here.0 ∙ ap (λ q. q ∷ drop (i + 1) ps) here.1) walk.ascending
 
-  pub reached : IsReached keys (key p.1)
+  pub reached : IsNotBelowLast keys (key p.1)
   reached = (next _ _ _ ascends).0
 
   -- one step: the entry at position i gets its numbers
   pub walked : (keys' : List Key) (email' : ℕ) (row old : NumberedEntry) → AreAscending keys' email'
       → last_key keys' ≡ Some (key p.1) → ((k : Key) (n : ℕ) → IsNumber keys k n → IsNumber keys' k n)
-      → row.located ≡ (get_or rows p.0 old).located → row.key ≡ length keys' - 1 → row.email ≡ email'
+      → row.located ≡ (get_or rows p.0 old).located → row.key_number ≡ length keys' - 1 → row.email_number ≡ email'
       → IsWalk history order (i + 1) keys' email' (set rows p.0 row)
   walked keys' email' row old keyed last keeps same own first = record {
     sorted = walk.sorted;
@@ -247,7 +247,7 @@ module _ (history : List LocatedEntry) (order : List IndexedEntry) (i : ℕ) (ke
 
 -- before the first step
 pub none_walked : (history : List LocatedEntry) (order : List IndexedEntry) (keys : List Key) (rows : List NumberedEntry)
-    → keys ≡ [] → mappings rows ≡ map located_of history → IsSorted (said history) (map indexed_mapping order)
+    → keys ≡ [] → located_mappings rows ≡ map located_of history → IsSorted (said history) (map indexed_mapping order)
     → IsWalk history order 0 keys 0 rows
 unfolding IsStrictlySortedBy
 none_walked history order keys rows none located sorted = subst (λ l. IsWalk history order 0 l 0 rows) (sym none) (record {
@@ -264,7 +264,7 @@ pub all_numbered : (history : List LocatedEntry) (order : List IndexedEntry) (i 
     → All (λ x. is_accepted (mapping_of x.entry) ≡ true) history → All (IsNumbered keys) rows
 all_numbered history order i keys email rows walk over accepted m d within =
     let h = d.located.now in
-    let e = entry_of (get_or rows m d) in
+    let e = numbered_mapping (get_or rows m d) in
     let inside : m < length history =
     omega (arith, length-map rows located_entry_of, length-map history located_of, ap length walk.located) in
     let same : e ≡ mapping_of (get_or history m h).entry =

@@ -1,10 +1,11 @@
 -- An accepted entry is redundant exactly if without it its key is still there and has the same value.
 use Rattle.std.proofs.lemmas.Grind.{common_steps}
 use Rattle.std.proofs.Common.{rules, ◌≡◌, Bool, true, false, List, [], ◌∷◌, ◌++◌, filter, Option, None, Some, refl, ap, sym, ◌∙◌, true≢false, append_assoc, ⊎_elim, inl, inr, is_some, unwrap_or, subst, arith}
-use Rattle.std.specs.Prelude.{◌↔◌, ◌⊎◌, IfSome}
+use Rattle.std.specs.Prelude.{◌↔◌, ◌⊎◌, ◌&&◌, ◌||◌, IfSome, nat_eq}
 use Rattle.std.specs.Bool.{Decides}
+use Rattle.std.specs.Borrow.{Bor}
 use Rattle.std.specs.Cmp.{tied_itself}
-use Rattle.std.specs.Cmp.Lexicographic.{nat_list_cmp_total}
+use Rattle.std.specs.Cmp.Lexicographic.{nat_list_cmp_total, pointwise}
 use Rattle.std.specs.Ordering.{eq_by_cmp, is_eq}
 use Rattle.std.specs.Option.{option_and_then, option_map, option_or}
 use Rattle.std.proofs.lemmas.Bool.{and_from, and_parts, cases_Bool}
@@ -13,18 +14,21 @@ use Rattle.std.proofs.lemmas.Map.Lookups.{exact_bytes}
 use Rattle.std.proofs.lemmas.Map.Views.{tells_apart}
 use Rattle.mailmap_entries.specs.Entries.{Mapping}
 use Rattle.mailmap_entries.specs.Folding.{Text, folded, text_cmp}
+use Rattle.mailmap_entries.specs.Listings.{same_entry, same_optional}
+use Rattle.std.proofs.lemmas.Cmp.{nat_list_eq_equiv}
 use Rattle.mailmap_entries.specs.Semantics.{IsNormal, Key, accepted, first, has_key, is_accepted, key, key_cmp, last, last_given, of_email, of_key, value}
 use Rattle.mailmap_entries.specs.Alike.{Alike}
 use Rattle.mailmap_entries.proofs.Alike.{alike_accepted, alike_back, same_normal, same_value}
-use Rattle.mailmap_entries.proofs.EqualListings.{entry_decides}
+use Rattle.mailmap_entries.proofs.EqualListings.{entry_decides, optional_decides}
 use Rattle.mailmap_entries.proofs.Exists.{normal, is_normal}
 use Rattle.mailmap_entries.proofs.Joined.{alike_trans, first-map, last-map}
 use Rattle.mailmap_entries.proofs.Keys.{keys_total, keys_exact}
 use Rattle.mailmap_entries.proofs.Normal.{alike_normal, known}
-use Rattle.mailmap_entries.proofs.Parts.{all_last, filter-map, first-append, last-append}
-use Rattle.mailmap_redundancy.specs.Redundancy.{IsRedundant, LocatedMapping, entries, entries_of_key}
+use Rattle.mailmap_entries.proofs.Parts.{all_last, filter-map, first-append, is_some-option_map, last-append}
+use Rattle.mailmap_redundancy.specs.Redundancy.{IsRedundant, LocatedMapping, entries, entries_of_key, located_of_reference}
+use Rattle.mailmap_redundancy.specs.declared.located.LocatedEntry.{LocatedEntry}
 use Rattle.mailmap_redundancy.specs.Origins.{entries_of_email, last_with}
-use Rattle.mailmap_redundancy.specs.Numbers.{Said, is_redundant, joined_said, said, said_by, said_of_one, value_said}
+use Rattle.mailmap_redundancy.specs.Numbers.{Said, email_origin, is_redundant, joined_said, name_origin, referred, said, said_by, said_of_one, value_said}
 use Rattle.std.proofs.lemmas.List.{map-append}
 use Rattle.std.specs.List.{AllByRecursion}
 
@@ -133,6 +137,69 @@ pub record Stays (is_named : Bool) (before : Said) (x : LocatedMapping) (after :
   pub same : value_said is_named (joined_said (joined_said before (said_of_one x)) after)
       ≡ value_said is_named (joined_said before after)
 
+pub has_referred : (o : Option (Bor LocatedEntry)) → is_some (referred o) ≡ is_some o
+has_referred o = sym (is_some-option_map located_of_reference o)
+
+-- the test that decides whether it stays: whether the key is there without x, and has the same value
+optional_itself : (o : Option Text) → same_optional o o ≡ true
+optional_itself o = (optional_decides o o).1 refl
+
+there_without : (before after : Option LocatedMapping)
+    → is_some after || is_some before ≡ is_some (option_or after before)
+there_without before None = refl
+there_without before (Some y) = refl
+
+and_twice : (a b c : Bool) → (a && b) && c ≡ a && (b && c)
+and_twice true b c = refl
+and_twice false b c = refl
+
+-- a later entry overrides a field, or x doesn't change it
+overridden : (f : Mapping → Option Text) (before own after : Option LocatedMapping)
+    → is_some after || same_optional (option_and_then (λ y. f y.entry) (option_or own before)) (option_and_then (λ y. f y.entry) before)
+    ≡ same_optional (option_and_then (λ y. f y.entry) (option_or after (option_or own before))) (option_and_then (λ y. f y.entry) (option_or after before))
+overridden f before own None = refl
+overridden f before own (Some y) = sym (optional_itself (f y.entry))
+
+module _ (before : Said) (x : LocatedMapping) (after : Said) where
+  abbrev own : Said
+  own = said_of_one x
+
+  abbrev value_with : Bool → Mapping
+  value_with n = value_said n (joined_said (joined_said before own) after)
+
+  abbrev value_without : Bool → Mapping
+  value_without n = value_said n (joined_said before after)
+
+  new_name_test : (n : Bool)
+      → is_some (name_origin n after.of_key) || same_optional (value_said n (joined_said before own)).new_name (value_said n before).new_name
+      ≡ same_optional (value_with n).new_name (value_without n).new_name
+  new_name_test true = overridden (λ e. e.new_name) before.of_key.last own.of_key.last after.of_key.last
+  new_name_test false = overridden (λ e. e.new_name) before.of_key.name own.of_key.name after.of_key.name
+
+  new_email_test : (n : Bool)
+      → is_some (email_origin n after.of_key) || same_optional (value_said n (joined_said before own)).new_email (value_said n before).new_email
+      ≡ same_optional (value_with n).new_email (value_without n).new_email
+  new_email_test true = overridden (λ e. e.new_email) before.of_key.last own.of_key.last after.of_key.last
+  new_email_test false = overridden (λ e. e.new_email) before.of_key.email own.of_key.email after.of_key.email
+
+  abbrev named : Bool
+  named = is_some (key x.entry).1
+
+  old_name_test : is_some before.of_key.first || same_optional x.entry.old_name (value_said named after).old_name
+      ≡ same_optional (value_with named).old_name (value_without named).old_name
+  old_name_test = grind (arith, optional_itself)
+
+  old_email_test : is_some before.spelling || pointwise nat_eq x.entry.old_email (value_said named after).old_email
+      ≡ pointwise nat_eq (value_with named).old_email (value_without named).old_email
+  old_email_test = grind (arith, nat_list_eq_equiv)
+
+  pub tests_values : is_redundant before x after ≡ is_some (joined_said before after).of_key.last && same_entry (value_with named) (value_without named)
+  tests_values = (λ i. there_without before.of_key.last after.of_key.last i
+      && ((new_name_test named i && new_email_test named i) && (old_name_test i && old_email_test i)))
+      ∙ ap (λ b. is_some (joined_said before after).of_key.last && b)
+      (and_twice (same_optional (value_with named).new_name (value_without named).new_name)
+      (same_optional (value_with named).new_email (value_without named).new_email) _)
+
 module _ (a : LocatedMappings) (x : LocatedMapping) (c : LocatedMappings) (fine : is_accepted x.entry ≡ true) where
   abbrev k : Key
   k = key x.entry
@@ -227,11 +294,12 @@ module _ (a : LocatedMappings) (x : LocatedMapping) (c : LocatedMappings) (fine 
   said_decides =
       let same = entry_decides _ _ in (
         λ yes.
-            let both = and_parts (is_some (joined_said (told a k) (told c k)).of_key.last) _ yes in
+            let both = and_parts (is_some (joined_said (told a k) (told c k)).of_key.last) _ (sym (tests_values (told a k) x (told c k)) ∙ yes) in
             stays_decides.1 (record { there = both.0; same = same.0 both.1 }),
         λ redundant.
             let stays = stays_decides.0 redundant in
-            and_from (is_some (joined_said (told a k) (told c k)).of_key.last) _ stays.there (same.1 stays.same),
+            tests_values (told a k) x (told c k)
+            ∙ and_from (is_some (joined_said (told a k) (told c k)).of_key.last) _ stays.there (same.1 stays.same),
       )
 
 -- each entry is redundant or not

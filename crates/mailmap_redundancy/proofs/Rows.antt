@@ -13,25 +13,25 @@ use Rattle.mailmap_entries.specs.Semantics.{Key, is_accepted, key, key_cmp}
 use Rattle.mailmap_entries.proofs.Parts.{all_append, all_weaker, first-append, last-append, all_mapped}
 use Rattle.mailmap_redundancy.specs.Origins.{entries_of_email}
 use Rattle.mailmap_redundancy.specs.Redundancy.{LocatedMapping, entries_of_key, IsPass, IsRedundant, goes, stays, entries, AreEffective, settled, again}
-use Rattle.mailmap_redundancy.specs.Numbers.{IsKnown, IsNumber, IsNumbered, IsTableOf, IsWith, email_key, joined_said, located_entry_of, mappings, said, said_of_one, IsTable, entry_of, is_redundant, said_after_each, said_of}
+use Rattle.mailmap_redundancy.specs.Numbers.{IsKnown, IsNumber, IsNumbered, IsTableOf, IsWith, email_key, joined_said, located_entry_of, located_mappings, said, said_of_one, IsTable, numbered_mapping, is_redundant, later_of, later_of_each}
 use Rattle.mailmap_redundancy.specs.declared.keys.NumberedEntry.{NumberedEntry}
 use Rattle.mailmap_redundancy.proofs.Numbered.{unequal_emails, unequal_keys, same_number}
 use Rattle.mailmap_redundancy.proofs.Redundant.{own_email, own_key, said_decides}
 use Rattle.std.specs.Bool.{Decides}
-use Rattle.mailmap_redundancy.specs.declared.table.Summary.{Summary}
+use Rattle.mailmap_redundancy.specs.declared.passes.Later.{Later}
 use Rattle.mailmap_redundancy.specs.declared.table.Table.{Table}
 use Rattle.mailmap_redundancy.proofs.Kept.{all_good as good_itself, pass_whole}
 
 -- ---- one step
 
 -- the entries before the index after one step forwards, and those from it on after one step backwards
-pub mappings_more : (xs : List NumberedEntry) (i : ℕ) (x : NumberedEntry) → i < length xs → x ≡ get_or xs i x
-    → mappings (take (i + 1) xs) ≡ mappings (take i xs) ++ located_entry_of x ∷ []
-mappings_more xs i x within is = grind (arith, common_steps, map_more)
+pub located_mappings_more : (xs : List NumberedEntry) (i : ℕ) (x : NumberedEntry) → i < length xs → x ≡ get_or xs i x
+    → located_mappings (take (i + 1) xs) ≡ located_mappings (take i xs) ++ located_entry_of x ∷ []
+located_mappings_more xs i x within is = grind (arith, common_steps, map_more)
 
-pub mappings_next : (xs : List NumberedEntry) (i j : ℕ) (x : NumberedEntry) → i < length xs → x ≡ get_or xs i x
-    → j ≡ i + 1 → mappings (drop i xs) ≡ located_entry_of x ∷ mappings (drop j xs)
-mappings_next xs i j x within is next = search (rules, drop_more)
+pub located_mappings_next : (xs : List NumberedEntry) (i j : ℕ) (x : NumberedEntry) → i < length xs → x ≡ get_or xs i x
+    → j ≡ i + 1 → located_mappings (drop i xs) ≡ located_entry_of x ∷ located_mappings (drop j xs)
+located_mappings_next xs i j x within is next = search (rules, drop_more)
 
 pub same_ends : {X : Type 0} (xs ys : List X) (x y : X) → xs ++ x ∷ [] ≡ ys ++ y ∷ [] → (xs ≡ ys) × (x ≡ y)
 same_ends [] [] x y e = (refl, cc)
@@ -111,67 +111,65 @@ abbrev IsGood : LocatedMapping → Type 0
 IsGood x = is_accepted x.entry ≡ true
 
 all_good : (keys : List Key) (all : List NumberedEntry) (i : ℕ) → All (IsNumbered keys) all
-    → AllByRecursion IsGood (mappings (drop i all))
+    → AllByRecursion IsGood (located_mappings (drop i all))
 all_good keys all i n =
     let after = recursion_from_All (IsNumbered keys) (drop i all) (All-drop (IsNumbered keys) i all n) in
     search (rules, all_mapped, all_weaker)
 
 -- The state before entry i: what is left of the result of each_later, the table of the kept entries, and the fact that
 -- a pass over the remaining entries completes the whole pass.
-pub record IsPassing (keys : List Key) (all : List NumberedEntry) (i : ℕ) (later_ones : List Summary) (before : Table)
+pub record IsPassing (keys : List Key) (all : List NumberedEntry) (i : ℕ) (later_ones : List Later) (before : Table)
     (kept : List NumberedEntry) : Type 0 where
-  pub asked : map said_of later_ones ≡ said_after_each (mappings (drop i all))
-  pub table : IsTable keys (mappings kept) before
+  pub asked : later_ones ≡ later_of_each (located_mappings (drop i all))
+  pub table : IsTable keys (located_mappings kept) before
   pub numbered : All (IsNumbered keys) kept
-  pub left : (out : List LocatedMapping) → IsPass (mappings kept) (mappings (drop i all)) out
-      → IsPass [] (mappings all) out
+  pub left : (out : List LocatedMapping) → IsPass (located_mappings kept) (located_mappings (drop i all)) out
+      → IsPass [] (located_mappings all) out
 
 module _ (keys : List Key) (all : List NumberedEntry) (numbered : All (IsNumbered keys) all) (i : ℕ) (x : NumberedEntry)
-    (within : i < length all) (is : x ≡ get_or all i x) (n : IsNumbered keys x) (later_ones : List Summary)
+    (within : i < length all) (is : x ≡ get_or all i x) (n : IsNumbered keys x) (later_ones : List Later)
     (before : Table) (kept : List NumberedEntry) (so : IsPassing keys all i later_ones before kept)
-    (left : List Summary) (later : Summary) (popped : later_ones ≡ left ++ later ∷ []) where
+    (left : List Later) (later : Later) (popped : later_ones ≡ left ++ later ∷ []) where
   abbrev rest : List LocatedMapping
-  rest = mappings (drop (i + 1) all)
+  rest = located_mappings (drop (i + 1) all)
 
-  next : mappings (drop i all) ≡ located_entry_of x ∷ rest
-  next = mappings_next all i (i + 1) x within is refl
+  next : located_mappings (drop i all) ≡ located_entry_of x ∷ rest
+  next = located_mappings_next all i (i + 1) x within is refl
 
-  ends : (map said_of left ≡ said_after_each rest) × (said_of later ≡ said rest (key (entry_of x)))
-  ends = same_ends (map said_of left) (said_after_each rest) (said_of later) (said rest (key (entry_of x)))
-      (sym (map-append said_of left (later ∷ [])) ∙ ap (map said_of) (sym popped) ∙ so.asked ∙ ap said_after_each next)
+  pub ends : (left ≡ later_of_each rest) × (later ≡ later_of (located_entry_of x) (said rest (key (numbered_mapping x))))
+  ends = same_ends left (later_of_each rest) later (later_of (located_entry_of x) (said rest (key (numbered_mapping x))))
+      (sym popped ∙ so.asked ∙ ap later_of_each next)
 
-  abbrev test : Bool
-  test = is_redundant (said (mappings kept) (key (entry_of x))) (located_entry_of x) (said_of later)
+  abbrev pub test : Bool
+  test = is_redundant (said (located_mappings kept) (key (numbered_mapping x))) (located_entry_of x) (said rest (key (numbered_mapping x)))
 
-  decides : Decides test (IsRedundant (entries (mappings kept)) (entry_of x) (entries rest))
-  decides = subst (λ s. Decides (is_redundant (said (mappings kept) (key (entry_of x))) (located_entry_of x) s)
-      (IsRedundant (entries (mappings kept)) (entry_of x) (entries rest))) (sym ends.1)
-      (subst (λ (l : List LocatedMapping × List LocatedMapping). Decides (is_redundant (said l.0 (key (entry_of x)))
-      (located_entry_of x) (said l.1 (key (entry_of x)))) (IsRedundant (entries (mappings kept)) (entry_of x) (entries rest)))
+  decides : Decides test (IsRedundant (entries (located_mappings kept)) (numbered_mapping x) (entries rest))
+  decides = subst (λ (l : List LocatedMapping × List LocatedMapping). Decides (is_redundant (said l.0 (key (numbered_mapping x)))
+      (located_entry_of x) (said l.1 (key (numbered_mapping x)))) (IsRedundant (entries (located_mappings kept)) (numbered_mapping x) (entries rest)))
       (λ j. (
-        good_itself (mappings kept) (all_accepted keys (mappings kept) so.table.known) j,
+        good_itself (located_mappings kept) (all_accepted keys (located_mappings kept) so.table.known) j,
         good_itself rest (all_good keys all (i + 1) numbered) j,
       ))
-      (said_decides (mappings kept) (located_entry_of x) rest n.accepted))
+      (said_decides (located_mappings kept) (located_entry_of x) rest n.accepted)
 
   pub going : test ≡ true → IsPassing keys all (i + 1) left before kept
   going redundant = record {
     asked = ends.0;
     table = so.table;
     numbered = so.numbered;
-    left = λ out p. so.left out (rw next (goes (mappings kept) (located_entry_of x) rest out (decides.0 redundant) p));
+    left = λ out p. so.left out (rw next (goes (located_mappings kept) (located_entry_of x) rest out (decides.0 redundant) p));
   }
 
   pub staying : (after : Table) (kept' : List NumberedEntry) → test ≡ false → kept' ≡ kept ++ x ∷ []
-      → IsTable keys (mappings kept ++ located_entry_of x ∷ []) after → IsPassing keys all (i + 1) left after kept'
+      → IsTable keys (located_mappings kept ++ located_entry_of x ∷ []) after → IsPassing keys all (i + 1) left after kept'
   staying after kept' works pushed table =
-      let grown : mappings kept' ≡ mappings kept ++ located_entry_of x ∷ [] =
-      ap mappings pushed ∙ map_push located_entry_of kept x in
+      let grown : located_mappings kept' ≡ located_mappings kept ++ located_entry_of x ∷ [] =
+      ap located_mappings pushed ∙ map_push located_entry_of kept x in
       record {
         asked = ends.0;
         table = rw grown table;
         numbered = rw pushed (All-push (IsNumbered keys) kept x so.numbered n);
-        left = λ out p. so.left out (rw next (stays (mappings kept) (located_entry_of x) rest out
+        left = λ out p. so.left out (rw next (stays (located_mappings kept) (located_entry_of x) rest out
             (λ redundant. true≢false (sym (decides.1 redundant) ∙ works)) (rw (← grown) p)));
       }
 

@@ -42,12 +42,14 @@ module _ {X : Type 0} where
       All-contains (Contains xs) ks x (All-from_recursion (Contains xs) ks (sublist_all (Contains xs) ks xs s (recursion_from_All (Contains xs) xs (All-contains_itself xs))))
 
   module _ {K : Type 0} (cmp : K → K → Ordering) (f : X → K) where
-    below : (k : K) (ks xs : List X) → IsSublist ks xs → AllByRecursion (λ y. cmp k y ≡ Less) (map f xs) → AllByRecursion (λ y. cmp k y ≡ Less) (map f ks)
+    below : (k : K) (ks xs : List X) → IsSublist ks xs → AllByRecursion (λ y. cmp k y ≡ Less) (map f xs)
+        → AllByRecursion (λ y. cmp k y ≡ Less) (map f ks)
     below k _ _ none a = tt
     below k _ _ (skips x ks xs s) a = below k ks xs s a.1
     below k _ _ (keeps x ks xs s) a = (a.0, below k ks xs s a.1)
 
-    pub sublist_sorted : (ks xs : List X) → IsSublist ks xs → IsStrictlySortedBy cmp (map f xs) → IsStrictlySortedBy cmp (map f ks)
+    pub sublist_sorted : (ks xs : List X) → IsSublist ks xs → IsStrictlySortedBy cmp (map f xs)
+        → IsStrictlySortedBy cmp (map f ks)
     unfolding IsStrictlySortedBy
     sublist_sorted _ _ none a = tt
     sublist_sorted _ _ (skips x ks xs s) a = sublist_sorted ks xs s (sorted_tail cmp (f x) (map f xs) a)

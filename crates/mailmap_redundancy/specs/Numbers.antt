@@ -1,20 +1,22 @@
 -- What entries say of keys and emails, the numbers of these, and tables with a row for each number.
-use Rattle.std.specs.Prelude.{◌≡◌, ◌<◌, ◌⊎◌, ◌&&◌, ◌-◌, Bool, false, if◌then◌else◌, true, List, [], ◌∷◌, ◌++◌, ℕ, Option, Some, None, Contains, is_some, map, length, unwrap_or}
+use Rattle.std.specs.Prelude.{nat_eq, ◌≡◌, ◌<◌, ◌⊎◌, ◌&&◌, ◌||◌, ◌-◌, Bool, false, if◌then◌else◌, true, List, [], ◌∷◌, ◌++◌, ℕ, Option, Some, None, Contains, is_some, map, length, unwrap_or}
 use Rattle.std.specs.Borrow.{Bor}
 use Rattle.std.specs.Option.{option_and_then, option_copied, option_map, option_or}
 use Rattle.std.specs.List.{slice_get, slice_index_or, AllByRecursion}
+use Rattle.std.specs.Cmp.Lexicographic.{pointwise}
 use Rattle.std.specs.List.Sorted.{IsStrictlySortedBy}
 use Rattle.std.specs.Ordering.{is_lt}
 use Rattle.mailmap_entries.specs.Entries.{Mapping, mapping_of}
 use Rattle.mailmap_entries.specs.Folding.{Text}
-use Rattle.mailmap_entries.specs.Listings.{same_entry}
+use Rattle.mailmap_entries.specs.Listings.{same_optional}
 use Rattle.mailmap_entries.specs.Semantics.{Key, Fields, first, key, key_cmp, is_accepted, last}
 use Rattle.mailmap_redundancy.specs.Redundancy.{LocatedMapping, AreEffective, located_of, located_of_reference, entries_of_key}
 use Rattle.mailmap_redundancy.specs.Origins.{Origins, entries_of_email, last_with}
 use Rattle.mailmap_redundancy.specs.declared.keys.NumberedEntry.{NumberedEntry}
 use Rattle.mailmap_redundancy.specs.declared.located.LocatedEntry.{LocatedEntry}
 use Rattle.mailmap_redundancy.specs.declared.origins.Fields.{Fields as FieldSlices}
-use Rattle.mailmap_redundancy.specs.declared.origins.Origins.{Origins as GiverEntries}
+use Rattle.mailmap_redundancy.specs.declared.origins.Origins.{Origins as OriginEntries}
+use Rattle.mailmap_redundancy.specs.declared.passes.Later.{Later}
 use Rattle.mailmap_redundancy.specs.declared.table.KeySummary.{KeySummary as KeyEntries}
 use Rattle.mailmap_redundancy.specs.declared.table.EmailSummary.{EmailSummary as EmailEntries}
 use Rattle.mailmap_redundancy.specs.declared.table.Summary.{Summary as SummaryEntries}
@@ -29,17 +31,17 @@ fields_of f = record { name = option_copied f.name; email = option_copied f.emai
 abbrev pub referred : Option (Bor LocatedEntry) → Option LocatedMapping
 referred o = option_map located_of_reference o
 
-abbrev pub origins_of : GiverEntries → Origins
+abbrev pub origins_of : OriginEntries → Origins
 origins_of g = record { name = referred g.name; email = referred g.email; spelling = referred g.spelling }
 
-abbrev pub entry_of : NumberedEntry → Mapping
-entry_of x = mapping_of x.located.now.entry
+abbrev pub numbered_mapping : NumberedEntry → Mapping
+numbered_mapping x = mapping_of x.located.now.entry
 
 abbrev pub located_entry_of : NumberedEntry → LocatedMapping
 located_entry_of x = located_of x.located.now
 
-abbrev pub mappings : List NumberedEntry → List LocatedMapping
-mappings xs = map located_entry_of xs
+abbrev pub located_mappings : List NumberedEntry → List LocatedMapping
+located_mappings xs = map located_entry_of xs
 
 -- ---- the entries that matter
 
@@ -96,11 +98,18 @@ joined_said a b = record {
   spelling = option_or a.spelling b.spelling;
 }
 
+-- the entries that give a key with or without an old name its new name and its new email
+abbrev pub name_origin : Bool → KeyOrigins → Option LocatedMapping
+name_origin is_named s = if is_named then s.last else s.name
+
+abbrev pub email_origin : Bool → KeyOrigins → Option LocatedMapping
+email_origin is_named s = if is_named then s.last else s.email
+
 -- the value of a key with or without an old name, of which this is said
 abbrev pub value_said : Bool → Said → Mapping
 value_said is_named s = record {
-  new_name = option_and_then (λ x. x.entry.new_name) (if is_named then s.of_key.last else s.of_key.name);
-  new_email = option_and_then (λ x. x.entry.new_email) (if is_named then s.of_key.last else s.of_key.email);
+  new_name = option_and_then (λ x. x.entry.new_name) (name_origin is_named s.of_key);
+  new_email = option_and_then (λ x. x.entry.new_email) (email_origin is_named s.of_key);
   old_name = if is_named then option_and_then (λ x. x.entry.old_name) s.of_key.first else None;
   old_email = unwrap_or (option_map (λ x. x.entry.old_email) s.spelling) [];
 }
@@ -113,16 +122,44 @@ value_of v = record {
   old_email = v.old_email.now;
 }
 
--- whether the key of x is still there without x, and has the same value
-abbrev pub is_redundant : Said → LocatedMapping → Said → Bool
-is_redundant before x after = is_some (joined_said before after).of_key.last
-    && same_entry (value_said (is_some (key x.entry).1) (joined_said (joined_said before (said_of_one x)) after))
-    (value_said (is_some (key x.entry).1) (joined_said before after))
+-- what the redundancy of x depends on in the entries after it, which say this
+abbrev pub later_of : LocatedMapping → Said → Later
+later_of x after =
+    let is_named = is_some (key x.entry).1 in
+    let value = value_said is_named after in
+    record {
+      has_key = is_some after.of_key.last;
+      overrides_name = is_some (name_origin is_named after.of_key);
+      overrides_email = is_some (email_origin is_named after.of_key);
+      same_old_name = same_optional x.entry.old_name value.old_name;
+      same_old_email = pointwise nat_eq x.entry.old_email value.old_email;
+    }
 
--- what the entries after each entry say of its key and its email; the last entry's comes first
-abbrev pub said_after_each : List LocatedMapping → List Said
-said_after_each [] = []
-said_after_each (x ∷ xs) = said_after_each xs ++ said xs (key x.entry) ∷ []
+-- a later entry overrides a new field, or it is the same with and without this entry
+abbrev pub keeps_new_fields : Later → Mapping → Mapping → Bool
+keeps_new_fields later with_x without = (later.overrides_name || same_optional with_x.new_name without.new_name)
+    && (later.overrides_email || same_optional with_x.new_email without.new_email)
+
+-- an earlier entry spells the old name and the email, or the next one spells them alike
+abbrev pub keeps_spellings : Later → Said → Bool
+keeps_spellings later before = (is_some before.of_key.first || later.same_old_name)
+    && (is_some before.spelling || later.same_old_email)
+
+-- without x between what is said before it and what comes later, its key is still there, and has the same value
+abbrev pub is_redundant_by : Said → LocatedMapping → Later → Bool
+is_redundant_by before x later =
+    let is_named = is_some (key x.entry).1 in
+    (later.has_key || is_some before.of_key.last)
+    && (keeps_new_fields later (value_said is_named (joined_said before (said_of_one x))) (value_said is_named before)
+    && keeps_spellings later before)
+
+abbrev pub is_redundant : Said → LocatedMapping → Said → Bool
+is_redundant before x after = is_redundant_by before x (later_of x after)
+
+-- what matters of those after each entry of a list; the last entry's comes first
+abbrev pub later_of_each : List LocatedMapping → List Later
+later_of_each [] = []
+later_of_each (x ∷ xs) = later_of_each xs ++ later_of x (said xs (key x.entry)) ∷ []
 
 -- ---- numbers
 
@@ -135,17 +172,18 @@ IsNumber keys k i = slice_get keys i ≡ Some k
 
 -- an accepted entry with the numbers of its key and of its email's key
 pub record IsNumbered (keys : List Key) (x : NumberedEntry) : Type 0 where
-  pub own : IsNumber keys (key (entry_of x)) x.key
-  pub of_email : IsNumber keys (email_key (key (entry_of x)).0) x.email
-  pub accepted : is_accepted (entry_of x) ≡ true
+  pub own : IsNumber keys (key (numbered_mapping x)) x.key_number
+  pub of_email : IsNumber keys (email_key (key (numbered_mapping x)).0) x.email_number
+  pub accepted : is_accepted (numbered_mapping x) ≡ true
 
 -- ---- keys in ascending order
 
 abbrev pub last_key : List Key → Option Key
 last_key keys = slice_get keys (length keys - 1)
 
-abbrev pub IsReached : List Key → Key → Type 0
-IsReached keys k = (l : Key) → last_key keys ≡ Some l → is_lt (key_cmp k l) ≡ false
+-- the key isn't below the last one
+abbrev pub IsNotBelowLast : List Key → Key → Type 0
+IsNotBelowLast keys k = (l : Key) → last_key keys ≡ Some l → is_lt (key_cmp k l) ≡ false
 
 -- the keys ascend, and `email` is the number of the last key's email
 pub record AreAscending (keys : List Key) (email : ℕ) : Type 0 where
@@ -173,8 +211,8 @@ IsTableOf {X} {Y} {Z} keys key_of f view rows = (x : X) (i : ℕ) → IsNumber k
 
 -- each row refers to the entries of xs that matter for its key, or for its email
 pub record IsTable (keys : List Key) (xs : List LocatedMapping) (t : Table) : Type 0 where
-  pub of_keys : IsTableOf keys (λ k. k) (λ k. key_origins (entries_of_key xs k)) key_origins_of t.keys.items
-  pub of_emails : IsTableOf keys email_key (λ email. first (entries_of_email xs email)) first_of t.emails.items
+  pub of_keys : IsTableOf keys (λ k. k) (λ k. key_origins (entries_of_key xs k)) key_origins_of t.key_summaries.items
+  pub of_emails : IsTableOf keys email_key (λ email. first (entries_of_email xs email)) first_of t.email_summaries.items
   pub known : AllByRecursion (IsKnown keys) xs
 
 -- the second list is the first with x at its end or at its start

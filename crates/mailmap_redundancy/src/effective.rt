@@ -8,7 +8,7 @@ ghost use Rattle.mailmap_entries.specs.Semantics.{is_accepted, key, key_cmp, las
 ghost use Rattle.mailmap_redundancy.specs.Redundancy.{AreEffective, IsPass, LocatedMapping, entries, last_of_key, located_of};
 ghost use Rattle.mailmap_redundancy.specs.Redundancy.{located_of_reference};
 ghost use Rattle.mailmap_redundancy.specs.Origins.{git_answer_from, git_given, given, last_or_all as spec_last_or_all, origins as spec_origins};
-ghost use Rattle.mailmap_redundancy.specs.Numbers.{EffectiveEntries, IsEffectiveState, IsNumbered, email_key, key_origins, key_origins_of, mappings, origins_of, referred, said, said_of};
+ghost use Rattle.mailmap_redundancy.specs.Numbers.{EffectiveEntries, IsEffectiveState, IsNumbered, email_key, key_origins, key_origins_of, located_mappings, origins_of, referred, said, said_of};
 
 use crate::keys::{Key, NumberedEntry, find, number, unnumbered};
 use crate::located::LocatedEntry;
@@ -58,7 +58,7 @@ impl<'p, 'a> Effective<'p, 'a> {
 
     /// The entries behind the answer of all entries to a name and an email, and behind that of git if it has read the same
     /// entries. Dropping all other effective entries would change neither.
-    #[tactic(auto, using(crate::proofs::Giving::reduced_origins, crate::proofs::Giving::reduced_git))]
+    #[tactic(auto, using(crate::proofs::Giving::effective_origins, crate::proofs::Giving::effective_git))]
     pub fn origins(&self, name: &[u8], email: &[u8]) -> Origins<'p, 'a>
         ensures origins { origins_of result ≡ spec_origins self.now.kept name.now email.now }
         ensures answer { given (origins_of result) email.now
@@ -90,7 +90,7 @@ impl<'p, 'a> Effective<'p, 'a> {
         ensures effective { AreEffective self.now.history self.now.kept }
     {
         let number = find(&self.keys, key)?;
-        self.table.keys[number].last
+        self.table.key_summaries[number].last
     }
 
     // What the effective entries say of an email and of its key without a name.
@@ -106,8 +106,8 @@ impl<'p, 'a> Effective<'p, 'a> {
             };
         };
         Summary {
-            of_key: self.table.keys[number],
-            of_email: self.table.emails[number],
+            of_key: self.table.key_summaries[number],
+            of_email: self.table.email_summaries[number],
         }
     }
 
@@ -179,10 +179,10 @@ fn number_and_pass<'p, 'a>(
     rows: &mut [NumberedEntry<'p, 'a>],
 ) -> Result<(Vec<Key<'a>>, Vec<NumberedEntry<'p, 'a>>), AllocError>
     requires accepted { All (λ x. is_accepted (mapping_of x.entry) ≡ true) entries.now }
-    requires located { mappings rows.old ≡ map located_of entries.now }
+    requires located { located_mappings rows.old ≡ map located_of entries.now }
     ensures ascending { IfOk result (λ made. IsStrictlySortedBy key_cmp made.0.items) }
     ensures numbered { IfOk result (λ made. All (IsNumbered made.0.items) made.1.items) }
-    ensures passed { IfOk result (λ made. IsPass [] (map located_of entries.now) (mappings made.1.items)) }
+    ensures passed { IfOk result (λ made. IsPass [] (map located_of entries.now) (located_mappings made.1.items)) }
 {
     let keys = number(alloc, entries, rows)?;
     let kept = drop_redundant_once(alloc, &keys, rows)?;
@@ -193,7 +193,7 @@ fn without_numbers<'p, 'a>(
     alloc: Global,
     kept: &[NumberedEntry<'p, 'a>],
 ) -> Result<Vec<&'p LocatedEntry<'a>>, AllocError>
-    ensures { IfOk result (λ xs. map located_of_reference xs.items ≡ mappings kept.now) }
+    ensures { IfOk result (λ xs. map located_of_reference xs.items ≡ located_mappings kept.now) }
 {
     let mut entries = Vec::with_capacity(alloc, kept.len())?;
     for x in kept {

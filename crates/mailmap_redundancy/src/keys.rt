@@ -8,7 +8,7 @@ ghost use Rattle.mailmap_entries.specs.Entries.{mapping_of};
 ghost use Rattle.mailmap_entries.specs.Folding.{folded, text_cmp};
 ghost use Rattle.mailmap_entries.specs.Semantics.{Key as SpecKey, key, key_cmp, is_accepted};
 ghost use Rattle.mailmap_redundancy.specs.Redundancy.{located_of};
-ghost use Rattle.mailmap_redundancy.specs.Numbers.{AreAscending, IsNumber, IsNumbered, IsPushed, IsReached, last_key, located_entry_of, mappings};
+ghost use Rattle.mailmap_redundancy.specs.Numbers.{AreAscending, IsNumber, IsNumbered, IsPushed, IsNotBelowLast, last_key, located_entry_of, located_mappings};
 
 use crate::located::LocatedEntry;
 use mailmap_batches::batch::sorted;
@@ -88,8 +88,8 @@ pub(crate) fn find(keys: &[Key<'_>], key: &Key<'_>) -> Option<usize>
 #[derive(Clone, Copy)]
 pub(crate) struct NumberedEntry<'p, 'a> {
     pub(crate) located: &'p LocatedEntry<'a>,
-    pub(crate) key: usize,
-    pub(crate) email: usize,
+    pub(crate) key_number: usize,
+    pub(crate) email_number: usize,
 }
 
 /// A row for each entry, with numbers that [`number`] overwrites.
@@ -97,14 +97,14 @@ pub(crate) fn unnumbered<'p, 'a>(
     alloc: Global,
     entries: &'p [LocatedEntry<'a>],
 ) -> Result<Vec<NumberedEntry<'p, 'a>>, AllocError>
-    ensures { IfOk result (λ rows. mappings rows.items ≡ map located_of entries.now) }
+    ensures { IfOk result (λ rows. located_mappings rows.items ≡ map located_of entries.now) }
 {
     let mut rows = Vec::with_capacity(alloc, entries.len())?;
     for located in entries {
         rows.push(NumberedEntry {
             located,
-            key: 0,
-            email: 0,
+            key_number: 0,
+            email_number: 0,
         })?;
     }
     Ok(rows)
@@ -118,21 +118,21 @@ pub(crate) fn number<'p, 'a>(
     rows: &mut [NumberedEntry<'p, 'a>],
 ) -> Result<Vec<Key<'a>>, AllocError>
     requires accepted { All (λ x. is_accepted (mapping_of x.entry) ≡ true) entries.now }
-    requires located { mappings rows.old ≡ map located_of entries.now }
+    requires located { located_mappings rows.old ≡ map located_of entries.now }
     ensures ascending { IfOk result (λ keys. IsStrictlySortedBy key_cmp keys.items) }
-    ensures located { OnOk result (mappings rows.new ≡ map located_of entries.now) }
+    ensures located { OnOk result (located_mappings rows.new ≡ map located_of entries.now) }
     ensures numbered { IfOk result (λ keys. All (IsNumbered keys.items) rows.new) }
 {
     let order = sorted(alloc, entries)?;
     let mut keys = AscendingKeys {
         keys: Vec::with_capacity(alloc, entries.len())?,
-        email: 0,
+        email_number: 0,
     };
     for at in &order {
         keys.add(at.entry)?;
         let row = &mut rows[at.index];
-        row.key = keys.keys.len() - 1;
-        row.email = keys.email;
+        row.key_number = keys.keys.len() - 1;
+        row.email_number = keys.email_number;
     }
     Ok(keys.keys)
 }
@@ -141,22 +141,22 @@ pub(crate) fn number<'p, 'a>(
 #[derive(Drop)]
 struct AscendingKeys<'a> {
     keys: Vec<Key<'a>>,
-    // the number of the last email's key
-    email: usize,
+    // of the last email's key
+    email_number: usize,
 }
 
 impl<'a> AscendingKeys<'a> {
     // Adds the entry's key and its email's key, unless they are there already.
     fn add(&mut self, entry: &Entry<'a>) -> Result<(), AllocError>
-        requires ascending { AreAscending self.old.keys.items self.old.email }
-        requires up { IsReached self.old.keys.items (key (mapping_of entry.now)) }
-        ensures ascending { OnOk result (AreAscending self.new.keys.items self.new.email) }
+        requires ascending { AreAscending self.old.keys.items self.old.email_number }
+        requires up { IsNotBelowLast self.old.keys.items (key (mapping_of entry.now)) }
+        ensures ascending { OnOk result (AreAscending self.new.keys.items self.new.email_number) }
         ensures last { OnOk result (last_key self.new.keys.items ≡ Some (key (mapping_of entry.now))) }
         ensures keeps { OnOk result ((k : SpecKey) (i : ℕ) → IsNumber self.old.keys.items k i
             → IsNumber self.new.keys.items k i) }
     {
         let email = Key::new(entry.old_email(), None);
-        self.email = push_above(&mut self.keys, email)?.unwrap_or(self.email);
+        self.email_number = push_above(&mut self.keys, email)?.unwrap_or(self.email_number);
         push_above(&mut self.keys, Key::of(entry))?;
         Ok(())
     }

@@ -13,7 +13,7 @@ ghost use Rattle.mailmap_redundancy.specs.declared.located.Position.{Position};
 use crate::located;
 
 /// Dropping the redundant entries keeps the normal list.
-#[tactic(auto, using(crate::proofs::Kept::reduced_normal))]
+#[tactic(auto, using(crate::proofs::Kept::effective_normal))]
 pub fn law_same_listing()
     ensures { (xs kept : List LocatedMapping) (n : List Mapping) → AreEffective xs kept
         → IsNormal (entries xs) n ↔ IsNormal (entries kept) n }
@@ -40,7 +40,7 @@ pub fn law_some_stay()
 {}
 
 /// Each key of the accepted entries keeps at least one entry.
-#[tactic(auto, using(crate::proofs::Kept::reduced_keys, crate::proofs::Kept::last_stays))]
+#[tactic(auto, using(crate::proofs::Kept::effective_keys, crate::proofs::Kept::last_stays))]
 pub fn law_each_key_stays()
     ensures keys { (xs kept : List LocatedMapping) (k : Key) → AreEffective xs kept
         → has_key (accepted (entries kept)) k ≡ has_key (accepted (entries xs)) k }
@@ -57,7 +57,7 @@ pub fn law_stable()
 {}
 
 /// Three passes are enough: the fourth drops nothing.
-#[tactic(auto, using(crate::proofs::Kept::fourth_drops_none, crate::proofs::Kept::reduced_by_three))]
+#[tactic(auto, using(crate::proofs::Kept::fourth_drops_none, crate::proofs::Kept::effective_by_three))]
 pub fn law_passes()
     ensures fourth { (xs a b c : List LocatedMapping) → IsPass [] xs a → IsPass [] a b → IsPass [] b c
         → IsPass [] c c }
@@ -66,7 +66,7 @@ pub fn law_passes()
 {}
 
 /// The origins of an answer determine it.
-#[tactic(auto, using(crate::proofs::Giving::reduced_origins))]
+#[tactic(auto, using(crate::proofs::Giving::effective_origins))]
 pub fn law_origins()
     ensures { (xs kept : List LocatedMapping) (name email : Text) → AreEffective xs kept
         → given (origins kept name email) email ≡ answer_of (entries xs) name email }

@@ -61,6 +61,6 @@ fn respelling<'a>(origin: Option<&LocatedEntry<'a>>, email: &[u8]) -> Option<&'a
     ensures { option_copied result
         ≡ option_and_then (λ x. answers.respelled x.entry.old_email email.now) (referred origin.entry) }
 {
-    let kept = old_email(origin)?;
-    if kept == email { None } else { Some(kept) }
+    let stored = old_email(origin)?;
+    if stored == email { None } else { Some(stored) }
 }

@@ -3,11 +3,11 @@ ghost use Rattle.std.specs.Prelude.{◌≡◌, All, [], IfOk, map};
 ghost use Rattle.std.specs.List.Sorted.{IsStrictlySortedBy};
 ghost use Rattle.mailmap_entries.specs.Semantics.{key_cmp};
 ghost use Rattle.mailmap_redundancy.specs.Redundancy.{IsPass, AreEffective, located_of};
-ghost use Rattle.mailmap_redundancy.specs.Numbers.{IsNumbered, is_redundant as spec_is_redundant, mappings, said_after_each, said_of};
+ghost use Rattle.mailmap_redundancy.specs.Numbers.{IsNumbered, is_redundant_by, keeps_new_fields, keeps_spellings, later_of, later_of_each, located_mappings, said_of, value_of};
 
 use crate::keys::{Key, NumberedEntry};
 use crate::located::LocatedEntry;
-use crate::table::{Summary, Table};
+use crate::table::{Summary, Table, Value};
 use std::alloc::{AllocError, Global};
 
 /// Repeats passes until one drops nothing, and returns the entries that are left. `after_one_pass` has those that the
@@ -20,8 +20,8 @@ pub(crate) fn drop_until_stable<'p, 'a>(
 ) -> Result<Vec<NumberedEntry<'p, 'a>>, AllocError>
     requires ascending { IsStrictlySortedBy key_cmp keys.now }
     requires numbered { All (IsNumbered keys.now) after_one_pass.items }
-    requires passed { IsPass [] (map located_of entries.now) (mappings after_one_pass.items) }
-    ensures effective { IfOk result (λ kept. AreEffective (map located_of entries.now) (mappings kept.items)) }
+    requires passed { IsPass [] (map located_of entries.now) (located_mappings after_one_pass.items) }
+    ensures effective { IfOk result (λ kept. AreEffective (map located_of entries.now) (located_mappings kept.items)) }
     ensures numbered { IfOk result (λ kept. All (IsNumbered keys.now) kept.items) }
 {
     let mut len = entries.len();
@@ -41,7 +41,7 @@ pub(crate) fn drop_redundant_once<'p, 'a>(
 ) -> Result<Vec<NumberedEntry<'p, 'a>>, AllocError>
     requires ascending { IsStrictlySortedBy key_cmp keys.now }
     requires numbered { All (IsNumbered keys.now) entries.now }
-    ensures passed { IfOk result (λ kept. IsPass [] (mappings entries.now) (mappings kept.items)) }
+    ensures passed { IfOk result (λ kept. IsPass [] (located_mappings entries.now) (located_mappings kept.items)) }
     ensures numbered { IfOk result (λ kept. All (IsNumbered keys.now) kept.items) }
 {
     let mut later_ones = each_later(alloc, keys, entries)?;
@@ -59,16 +59,64 @@ pub(crate) fn drop_redundant_once<'p, 'a>(
     Ok(kept)
 }
 
-// For each entry, what those after it say of its key and its email. In reverse: the last entry's comes first, so that a
-// pass can pop them.
-fn each_later<'p, 'a>(
+// What the redundancy of an entry depends on in the entries after it. A summary of these would take sixteen times the
+// memory, and each pass keeps one for each entry.
+#[derive(Clone, Copy)]
+pub(crate) struct Later {
+    has_key: bool,
+    // whether one of them counts for the new name, or for the new email, in place of this entry
+    overrides_name: bool,
+    overrides_email: bool,
+    // whether the first of them spells the key's old name, or the email, as this entry does
+    same_old_name: bool,
+    same_old_email: bool,
+}
+
+impl Later {
+    // From the summary of the entries after this one.
+    fn of(located: &LocatedEntry<'_>, after: Summary<'_, '_>) -> Later
+        ensures { result ≡ later_of (located_of located.now) (said_of after.entry) }
+    {
+        let is_named = located.entry.old_name().is_some();
+        let (name, email) = after.of_key.origins(is_named);
+        let value = after.value(is_named);
+        Later {
+            has_key: after.of_key.last.is_some(),
+            overrides_name: name.is_some(),
+            overrides_email: email.is_some(),
+            same_old_name: located.entry.old_name() == value.old_name,
+            same_old_email: located.entry.old_email() == value.old_email,
+        }
+    }
+
+    // Whether the new fields are the same with and without the entry: a later one overrides them, or it changes nothing of
+    // what the entries before it give.
+    fn keeps_new_fields(self, with: Value<'_>, without: Value<'_>) -> bool
+        ensures { result ≡ keeps_new_fields self (value_of with.entry) (value_of without.entry) }
+    {
+        (self.overrides_name || with.new_name == without.new_name)
+            && (self.overrides_email || with.new_email == without.new_email)
+    }
+
+    // Whether an earlier entry spells the old name and the email, or the next one spells them alike.
+    #[tactic(auto, using(crate::proofs::Redundant::has_referred))]
+    fn keeps_spellings(self, before: Summary<'_, '_>) -> bool
+        ensures { result ≡ keeps_spellings self (said_of before.entry) }
+    {
+        (before.of_key.first.is_some() || self.same_old_name)
+            && (before.of_email.first.is_some() || self.same_old_email)
+    }
+}
+
+// For each entry, what matters of those after it. In reverse: the last entry's comes first, so that a pass can pop them.
+fn each_later(
     alloc: Global,
     keys: &[Key<'_>],
-    entries: &[NumberedEntry<'p, 'a>],
-) -> Result<Vec<Summary<'p, 'a>>, AllocError>
+    entries: &[NumberedEntry<'_, '_>],
+) -> Result<Vec<Later>, AllocError>
     requires ascending { IsStrictlySortedBy key_cmp keys.now }
     requires numbered { All (IsNumbered keys.now) entries.now }
-    ensures { IfOk result (λ later_ones. map said_of later_ones.items ≡ said_after_each (mappings entries.now)) }
+    ensures { IfOk result (λ later_ones. later_ones.items ≡ later_of_each (located_mappings entries.now)) }
 {
     let mut table = Table::none(alloc, keys)?;
     let mut later_ones = Vec::with_capacity(alloc, entries.len())?;
@@ -76,7 +124,7 @@ fn each_later<'p, 'a>(
     while left > 0 {
         left -= 1;
         let x = &entries[left];
-        later_ones.push(table.summary(x))?;
+        later_ones.push(Later::of(x.located, table.summary(x)))?;
         table.prepend(x);
     }
     Ok(later_ones)
@@ -85,11 +133,14 @@ fn each_later<'p, 'a>(
 // Whether an entry is redundant between the entries kept before it and those after it: without it, its key is still
 // there, and has the same value. That decides for the whole normal list, since the value has the spelling of the email,
 // and nothing else of this entry reaches other keys.
-fn is_redundant(before: Summary<'_, '_>, located: &LocatedEntry<'_>, after: Summary<'_, '_>) -> bool
-    ensures { result ≡ spec_is_redundant (said_of before.entry) (located_of located.now) (said_of after.entry) }
+#[tactic(auto, using(crate::proofs::Redundant::has_referred))]
+fn is_redundant(before: Summary<'_, '_>, located: &LocatedEntry<'_>, later: Later) -> bool
+    ensures { result ≡ is_redundant_by (said_of before.entry) (located_of located.now) later }
 {
-    let without = before.then(after);
-    let with = before.then(Summary::of(located)).then(after);
     let is_named = located.entry.old_name().is_some();
-    without.of_key.last.is_some() && with.value(is_named).is_same(without.value(is_named))
+    let without = before.value(is_named);
+    let with = before.then(Summary::of(located)).value(is_named);
+    (later.has_key || before.of_key.last.is_some())
+        && later.keeps_new_fields(with, without)
+        && later.keeps_spellings(before)
 }

@@ -1,10 +1,9 @@
 //! What a range of entries says of each key and each email, as references to the entries that matter.
 ghost use Rattle.std.specs.Prelude.{◌≡◌, ◌<◌, ◌++◌, All, [], ◌∷◌, IfOk, List, vec_len};
 ghost use Rattle.std.specs.List.Sorted.{IsStrictlySortedBy};
-ghost use Rattle.mailmap_entries.specs.Listings.{same_entry};
 ghost use Rattle.mailmap_entries.specs.Semantics.{Key as SpecKey, key, key_cmp};
 ghost use Rattle.mailmap_redundancy.specs.Redundancy.{LocatedMapping, located_of};
-ghost use Rattle.mailmap_redundancy.specs.Numbers.{IsNumbered, IsTable, IsWith, entry_of, joined_said, key_origins, key_origins_of, located_entry_of, mappings, said, said_of, said_of_one, value_of, value_said};
+ghost use Rattle.mailmap_redundancy.specs.Numbers.{IsNumbered, IsTable, IsWith, email_origin, numbered_mapping, joined_said, key_origins, key_origins_of, located_entry_of, located_mappings, name_origin, referred, said, said_of, said_of_one, value_of, value_said};
 
 use crate::keys::{Key, NumberedEntry};
 use crate::located::{LocatedEntry, new_email, new_name, old_email, old_name};
@@ -41,9 +40,25 @@ impl<'p, 'a> KeySummary<'p, 'a> {
             last: Some(located),
         }
     }
+
+    /// The entries that give the new name and the new email. If the key has an old name, its last entry gives both.
+    pub(crate) fn origins(
+        &self,
+        is_named: bool,
+    ) -> (Option<&'p LocatedEntry<'a>>, Option<&'p LocatedEntry<'a>>)
+        ensures name { referred result.0 ≡ name_origin is_named (key_origins_of self.now) }
+        ensures email { referred result.1 ≡ email_origin is_named (key_origins_of self.now) }
+    {
+        if is_named {
+            (self.last, self.last)
+        } else {
+            (self.name, self.email)
+        }
+    }
 }
 
-/// The first entry of an email, whose spelling counts.
+/// The first entry of an email, whose spelling counts. It is a struct because a proof doesn't know what was written into a
+/// vector of bare optional references.
 #[derive(Clone, Copy)]
 pub(crate) struct EmailSummary<'p, 'a> {
     pub(crate) first: Option<&'p LocatedEntry<'a>>,
@@ -86,53 +101,39 @@ impl<'p, 'a> Summary<'p, 'a> {
         }
     }
 
-    /// What the range makes of its key. If the key has an old name, its last entry gives both new fields.
+    /// What the range makes of its key.
     pub(crate) fn value(&self, is_named: bool) -> Value<'a>
         ensures { value_of result ≡ value_said is_named (said_of self.now) }
     {
-        let key = &self.of_key;
-        let spelled = old_email(self.of_email.first).unwrap_or(&[]);
-        if is_named {
-            Value {
-                new_name: new_name(key.last),
-                new_email: new_email(key.last),
-                old_name: old_name(key.first),
-                old_email: spelled,
-            }
-        } else {
-            Value {
-                new_name: new_name(key.name),
-                new_email: new_email(key.email),
-                old_name: None,
-                old_email: spelled,
-            }
+        let (name, email) = self.of_key.origins(is_named);
+        Value {
+            new_name: new_name(name),
+            new_email: new_email(email),
+            old_name: if is_named {
+                old_name(self.of_key.first)
+            } else {
+                None
+            },
+            old_email: old_email(self.of_email.first).unwrap_or(&[]),
         }
     }
 }
 
 /// The new fields of a key, and how its old name and its email are spelled.
-#[derive(Clone, Copy, PartialEq)]
+#[derive(Clone, Copy)]
 pub(crate) struct Value<'a> {
-    new_name: Option<&'a [u8]>,
-    new_email: Option<&'a [u8]>,
-    old_name: Option<&'a [u8]>,
-    old_email: &'a [u8],
-}
-
-impl<'a> Value<'a> {
-    pub(crate) fn is_same(self, other: Value<'a>) -> bool
-        ensures { result ≡ same_entry (value_of self.entry) (value_of other.entry) }
-    {
-        self == other
-    }
+    pub(crate) new_name: Option<&'a [u8]>,
+    pub(crate) new_email: Option<&'a [u8]>,
+    pub(crate) old_name: Option<&'a [u8]>,
+    pub(crate) old_email: &'a [u8],
 }
 
 /// A summary for each key and one for each email, both indexed by the numbers of keys: that of an email is the number of
 /// the key without a name. A table has neither the keys nor the entries, so clauses speak of all those that it fits.
 #[derive(Drop)]
 pub(crate) struct Table<'p, 'a> {
-    pub(crate) keys: Vec<KeySummary<'p, 'a>>,
-    pub(crate) emails: Vec<EmailSummary<'p, 'a>>,
+    pub(crate) key_summaries: Vec<KeySummary<'p, 'a>>,
+    pub(crate) email_summaries: Vec<EmailSummary<'p, 'a>>,
 }
 
 impl<'p, 'a> Table<'p, 'a> {
@@ -141,12 +142,12 @@ impl<'p, 'a> Table<'p, 'a> {
         ensures { IfOk result (IsTable keys.now []) }
     {
         Ok(Table {
-            keys: vec![in alloc; KeySummary::none(); keys.len()]?,
-            emails: vec![in alloc; EmailSummary { first: None }; keys.len()]?,
+            key_summaries: vec![in alloc; KeySummary::none(); keys.len()]?,
+            email_summaries: vec![in alloc; EmailSummary { first: None }; keys.len()]?,
         })
     }
 
-    #[tactic(auto, using(crate::proofs::Rows::mappings_more))]
+    #[tactic(auto, using(crate::proofs::Rows::located_mappings_more))]
     pub(crate) fn of(
         alloc: Global,
         keys: &[Key<'_>],
@@ -154,7 +155,7 @@ impl<'p, 'a> Table<'p, 'a> {
     ) -> Result<Table<'p, 'a>, AllocError>
         requires ascending { IsStrictlySortedBy key_cmp keys.now }
         requires numbered { All (IsNumbered keys.now) entries.now }
-        ensures { IfOk result (IsTable keys.now (mappings entries.now)) }
+        ensures { IfOk result (IsTable keys.now (located_mappings entries.now)) }
     {
         let mut table = Table::none(alloc, keys)?;
         for x in entries {
@@ -164,21 +165,21 @@ impl<'p, 'a> Table<'p, 'a> {
     }
 
     pub(crate) fn summary(&self, x: &NumberedEntry) -> Summary<'p, 'a>
-        requires key { x.now.key < vec_len self.now.keys }
-        requires email { x.now.email < vec_len self.now.emails }
+        requires key { x.now.key_number < vec_len self.now.key_summaries }
+        requires email { x.now.email_number < vec_len self.now.email_summaries }
         ensures { (keys : List SpecKey) (xs : List LocatedMapping) → IsNumbered keys x.now → IsTable keys xs self.now
-            → said_of result ≡ said xs (key (entry_of x.now)) }
+            → said_of result ≡ said xs (key (numbered_mapping x.now)) }
     {
         Summary {
-            of_key: self.keys[x.key],
-            of_email: self.emails[x.email],
+            of_key: self.key_summaries[x.key_number],
+            of_email: self.email_summaries[x.email_number],
         }
     }
 
     /// Extends the range at its end.
     pub(crate) fn append(&mut self, x: &NumberedEntry<'p, 'a>)
-        requires key { x.now.key < vec_len self.old.keys }
-        requires email { x.now.email < vec_len self.old.emails }
+        requires key { x.now.key_number < vec_len self.old.key_summaries }
+        requires email { x.now.email_number < vec_len self.old.email_summaries }
         ensures { (keys : List SpecKey) (xs : List LocatedMapping) → IsStrictlySortedBy key_cmp keys
             → IsNumbered keys x.now → IsTable keys xs self.old
             → IsTable keys (xs ++ located_entry_of x.now ∷ []) self.new }
@@ -189,8 +190,8 @@ impl<'p, 'a> Table<'p, 'a> {
 
     /// Extends the range at its start.
     pub(crate) fn prepend(&mut self, x: &NumberedEntry<'p, 'a>)
-        requires key { x.now.key < vec_len self.old.keys }
-        requires email { x.now.email < vec_len self.old.emails }
+        requires key { x.now.key_number < vec_len self.old.key_summaries }
+        requires email { x.now.email_number < vec_len self.old.email_summaries }
         ensures { (keys : List SpecKey) (xs : List LocatedMapping) → IsStrictlySortedBy key_cmp keys
             → IsNumbered keys x.now → IsTable keys xs self.old → IsTable keys (located_entry_of x.now ∷ xs) self.new }
     {
@@ -200,13 +201,13 @@ impl<'p, 'a> Table<'p, 'a> {
 
     // Replaces the rows of an entry by what the range with this entry says.
     fn put(&mut self, x: &NumberedEntry<'p, 'a>, summary: Summary<'p, 'a>)
-        requires key { x.now.key < vec_len self.old.keys }
-        requires email { x.now.email < vec_len self.old.emails }
+        requires key { x.now.key_number < vec_len self.old.key_summaries }
+        requires email { x.now.email_number < vec_len self.old.email_summaries }
         ensures { (keys : List SpecKey) (xs ys : List LocatedMapping) → IsStrictlySortedBy key_cmp keys
             → IsNumbered keys x.now → IsTable keys xs self.old → IsWith xs (located_entry_of x.now) ys
-            → said_of summary.entry ≡ said ys (key (entry_of x.now)) → IsTable keys ys self.new }
+            → said_of summary.entry ≡ said ys (key (numbered_mapping x.now)) → IsTable keys ys self.new }
     {
-        self.keys[x.key] = summary.of_key;
-        self.emails[x.email] = summary.of_email;
+        self.key_summaries[x.key_number] = summary.of_key;
+        self.email_summaries[x.email_number] = summary.of_email;
     }
 }

@@ -5,14 +5,15 @@ use Rattle.std.proofs.lemmas.Bool.{cases_Bool, cond-true, cond-false, ltb-true, 
 use Rattle.std.proofs.lemmas.Bool.Decides.{nat_tests}
 use Rattle.std.proofs.lemmas.List.{map-append, get_or_append_left, get_or_push, length_push, take_at}
 use Rattle.bstr.specs.Text.{lines_of, no_cr, without_terminator}
-use Rattle.bstr.proofs.lemmas.LineLemmas.{lines-append, lines-nil, lines-one}
+use Rattle.bstr.proofs.lemmas.LineLemmas.{lines-nil, lines-one}
 use Rattle.mailmap_entries.specs.Folding.{Text}
 use Rattle.mailmap_grammar.specs.Lines.{HoldsNo, with_line_feeds, pieces}
 use Rattle.mailmap_grammar.proofs.LineFeeds.{all_parts, are_pieces}
+use Rattle.mailmap_grammar.proofs.LineParts.{lines_of-append}
 use Rattle.mailmap_grammar.proofs.Plain.{last_at}
 use Rattle.mailmap_grammar.proofs.SplitOnce.{held_at}
 use Rattle.mailmap_snapshot.specs.Contacts.{AreLines, IsWithoutReturn, contact_lines}
-use Rattle.mailmap_snapshot.specs.Parts.{EndsLine}
+use Rattle.mailmap_grammar.specs.LineParts.{EndsLine}
 
 abbrev ends_with : ℕ → List ℕ → Bool
 ends_with b s = nat_lt 0 (length s) && slice_index s (length s - 1) == b
@@ -49,11 +50,13 @@ only_without piece line (inr (same, other)) = ⊎_elim
     (without_return piece)
 
 -- the lines after whole lines
-pub contact_lines-append : (xs ys : Text) → EndsLine xs → contact_lines (xs ++ ys) ≡ contact_lines xs ++ contact_lines ys
-contact_lines-append xs ys ends = grind (arith, lines-append, map-append, last_byte)
+pub contact_lines-append : (xs ys : Text) → EndsLine xs
+    → contact_lines (xs ++ ys) ≡ contact_lines xs ++ contact_lines ys
+contact_lines-append xs ys ends = ap (map without_terminator) (lines_of-append xs ys ends) ∙ map-append without_terminator (lines_of xs) (lines_of ys)
 
 -- the lines of a piece, its line feed, and more text
-contact_lines-line : (piece rest : Text) → HoldsNo 10 piece → contact_lines (piece ++ 10 ∷ rest) ≡ no_cr piece ∷ contact_lines rest
+contact_lines-line : (piece rest : Text) → HoldsNo 10 piece
+    → contact_lines (piece ++ 10 ∷ rest) ≡ no_cr piece ∷ contact_lines rest
 contact_lines-line piece rest h =
     let long = length_push piece 10 in
     let one : lines_of (piece ++ 10 ∷ []) ≡ (piece ++ 10 ∷ []) ∷ [] = lines-one (piece ++ 10 ∷ []) (omega (arith, long)) (λ k l is.
@@ -71,7 +74,8 @@ pub contact_lines-nil : contact_lines [] ≡ []
 contact_lines-nil = ap (map without_terminator) lines-nil
 
 -- the lines of pieces with their line feeds, and of more text
-contact_lines-with_line_feeds : (ps : List Text) (rest : Text) → AllByRecursion (HoldsNo 10) ps → contact_lines (with_line_feeds ps ++ rest) ≡ map no_cr ps ++ contact_lines rest
+contact_lines-with_line_feeds : (ps : List Text) (rest : Text) → AllByRecursion (HoldsNo 10) ps
+    → contact_lines (with_line_feeds ps ++ rest) ≡ map no_cr ps ++ contact_lines rest
 contact_lines-with_line_feeds [] rest h = refl
 contact_lines-with_line_feeds (p ∷ ps) rest h =
     grind (arith, contact_lines-with_line_feeds ps rest h.1, append_assoc, contact_lines-line)

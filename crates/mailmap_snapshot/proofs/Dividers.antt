@@ -5,7 +5,8 @@ use Rattle.std.proofs.lemmas.List.{append_assoc, length_push, same_from_push, ap
 use Rattle.std.proofs.Math.Seq.{take-add, take-append_seam}
 use Rattle.bstr.specs.Text.{line_len, lines_of}
 use Rattle.bstr.proofs.lemmas.LineLemmas.{line_len-bounds, lines-nil, lines-step}
-use Rattle.mailmap_snapshot.specs.Parts.{EndsLine, IsDividerLine, IsDivider, PartsAt, IsFirstParting, IsSplit}
+use Rattle.mailmap_grammar.specs.LineParts.{EndsLine}
+use Rattle.mailmap_snapshot.specs.Parts.{IsDividerLine, IsDivider, PartsAt, IsFirstParting, IsSplit}
 
 -- a line `--` has at least two bytes
 IsDividerLine-length : (line : List ℕ) → IsDividerLine line → 2 ≤ length line

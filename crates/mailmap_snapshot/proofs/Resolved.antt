@@ -5,7 +5,7 @@ use Rattle.std.specs.List.Sorted.{IsStrictlySortedBy}
 use Rattle.std.proofs.lemmas.List.{get_or-map, length-map}
 use Rattle.std.proofs.lemmas.Option.{get_or_from_slice_get, slice_get_within}
 use Rattle.mailmap_entries.specs.Folding.{Text, folded, text_cmp}
-use Rattle.mailmap_tables.specs.Groups.{EmailGroup, IsGroup, AreGroups, email_key, name_key, listing, name_row, own_rows, rows}
+use Rattle.mailmap_tables.specs.Groups.{EmailGroup, IsGroup, AreGroups, folded_email, folded_name, listing, name_entry, unnamed_entries, group_entries}
 use Rattle.mailmap_entries.specs.Semantics.{fields_with_spelling, answer_of, mapping_with}
 use Rattle.mailmap_tables.specs.KeySearch.{IsFound, IsMissing}
 use Rattle.mailmap_tables.specs.Pool.{NameInPool, fields_of, spelled, name_group, group_of}
@@ -14,7 +14,7 @@ use Rattle.mailmap_tables.specs.declared.texts.Span.{Span}
 use Rattle.mailmap_snapshot.specs.Signatures.{name_count, is_for_email, email_count}
 use Rattle.mailmap_tables.specs.declared.texts.RowTexts.{RowTexts}
 use Rattle.mailmap_tables.proofs.KeySearch.{found_key}
-use Rattle.mailmap_tables.proofs.Grouped.{none_has, scan_missing, scan_name_at, scan_own_at, all_rows, rows_spelled, listing_all}
+use Rattle.mailmap_tables.proofs.Grouped.{none_has, scan_missing, scan_name_at, scan_own_at, all_rows, entries_spelled, listing_all}
 use Rattle.std.specs.Cmp.{tied_itself}
 use Rattle.std.specs.Cmp.Lexicographic.{nat_list_cmp_total}
 use Rattle.std.specs.Ordering.{eq_by_cmp, ordering_reverse}
@@ -46,15 +46,15 @@ some_add k (r ∷ s ∷ rs) rest says same other =
     ∙ some_add k (s ∷ rs) rest (λ e. cc) same.1 other
 
 -- the entries for emails other than k
-other_rows : (P : EmailGroup → Type 0) (k : Text) → ((g : EmailGroup) → P g → eq_by_cmp text_cmp k (email_key g) ≡ false) → (gs : List EmailGroup) → AllByRecursion P gs → AllByRecursion (λ x. eq_by_cmp text_cmp k (folded x.old_email) ≡ false) (listing gs)
-other_rows P k f gs a = listing_all _ gs (all_weaker gs (λ g p. all_weaker (rows g) (λ r spelled. ap (λ t. eq_by_cmp text_cmp k (folded t)) spelled ∙ f g p) (rows_spelled g)) a)
+other_entries : (P : EmailGroup → Type 0) (k : Text) → ((g : EmailGroup) → P g → eq_by_cmp text_cmp k (folded_email g) ≡ false) → (gs : List EmailGroup) → AllByRecursion P gs → AllByRecursion (λ x. eq_by_cmp text_cmp k (folded x.old_email) ≡ false) (listing gs)
+other_entries P k f gs a = listing_all _ gs (all_weaker gs (λ g p. all_weaker (group_entries g) (λ r spelled. ap (λ t. eq_by_cmp text_cmp k (folded t)) spelled ∙ f g p) (entries_spelled g)) a)
 
-pub listed_emails : (gs : List EmailGroup) → IsStrictlySortedBy text_cmp (map email_key gs) → AllByRecursion IsGroup gs → email_count (listing gs) ≡ length gs
+pub listed_emails : (gs : List EmailGroup) → IsStrictlySortedBy text_cmp (map folded_email gs) → AllByRecursion IsGroup gs → email_count (listing gs) ≡ length gs
 unfolding IsStrictlySortedBy
 listed_emails [] up each = refl
 listed_emails (g ∷ gs) up each =
-    some_add (email_key g) (rows g) (listing gs) each.0.says (all_weaker (rows g) (λ r spelled. ap folded spelled) (rows_spelled g))
-    (other_rows (λ x. text_cmp (email_key g) (email_key x) ≡ Less) (email_key g) (λ x less. ap is_eq less) gs (all_map email_key (λ y. text_cmp (email_key g) y ≡ Less) gs up.0))
+    some_add (folded_email g) (group_entries g) (listing gs) each.0.says (all_weaker (group_entries g) (λ r spelled. ap folded spelled) (entries_spelled g))
+    (other_entries (λ x. text_cmp (folded_email g) (folded_email x) ≡ Less) (folded_email g) (λ x less. ap is_eq less) gs (all_map folded_email (λ y. text_cmp (folded_email g) y ≡ Less) gs up.0))
     ∙ ap (λ n. n + 1) (listed_emails gs up.1 each.1) ∙ omega arith
 
 -- ---- names
@@ -62,15 +62,15 @@ listed_emails (g ∷ gs) up each =
 abbrev is_name_of : Text → Mapping → Bool
 is_name_of k e = is_some e.old_name && eq_by_cmp text_cmp k (folded e.old_email)
 
-rows_counted : (k : Text) (g : EmailGroup) → email_key g ≡ k → count_by (is_name_of k) (rows g) ≡ length g.names
-rows_counted k g same =
-    let tied : eq_by_cmp text_cmp k (email_key g) ≡ true = ap (eq_by_cmp text_cmp k) same ∙ ap is_eq (tied_itself nat_list_cmp_total k) in
-    sum_by-append (λ e. cond (is_name_of k e) 1 0) (own_rows g) (map (name_row g.old_email) g.names)
-    ∙ ap₂ (λ m n. m + n) (own (is_some g.own.name || is_some g.own.email)) (sym (length-filter (is_name_of k) (map (name_row g.old_email) g.names))
-    ∙ ap length (filter_all (is_name_of k) (map (name_row g.old_email) g.names) (all_rows (λ e. is_name_of k e ≡ true) g.old_email g.names (λ n. tied))) ∙ length-map g.names (name_row g.old_email))
+entries_counted : (k : Text) (g : EmailGroup) → folded_email g ≡ k → count_by (is_name_of k) (group_entries g) ≡ length g.names
+entries_counted k g same =
+    let tied : eq_by_cmp text_cmp k (folded_email g) ≡ true = ap (eq_by_cmp text_cmp k) same ∙ ap is_eq (tied_itself nat_list_cmp_total k) in
+    sum_by-append (λ e. cond (is_name_of k e) 1 0) (unnamed_entries g) (map (name_entry g.old_email) g.names)
+    ∙ ap₂ (λ m n. m + n) (own (is_some g.unnamed.name || is_some g.unnamed.email)) (sym (length-filter (is_name_of k) (map (name_entry g.old_email) g.names))
+    ∙ ap length (filter_all (is_name_of k) (map (name_entry g.old_email) g.names) (all_rows (λ e. is_name_of k e ≡ true) g.old_email g.names (λ n. tied))) ∙ length-map g.names (name_entry g.old_email))
     ∙ omega arith
   where
-    own : (b : Bool) → count_by (is_name_of k) (if b then mapping_with g.own None g.old_email ∷ [] else []) ≡ 0
+    own : (b : Bool) → count_by (is_name_of k) (if b then mapping_with g.unnamed None g.old_email ∷ [] else []) ≡ 0
     own b = grind arith
 
 -- entries for other emails than k are not counted
@@ -78,45 +78,45 @@ none_of_others : (k : Text) (rs : List Mapping) → AllByRecursion (λ x. eq_by_
 none_of_others k [] other = refl
 none_of_others k (r ∷ rs) other = grind (arith, none_of_others k rs other.1, other.0)
 
-pub name_count-none : (gs : List EmailGroup) (email : Text) → AllByRecursion (λ g. email_key g ≡ folded email → ⊥) gs → name_count (listing gs) email ≡ 0
-name_count-none gs email other = none_of_others (folded email) (listing gs) (other_rows (λ g. email_key g ≡ folded email → ⊥) (folded email) (λ g. other_text (folded email) (email_key g)) gs other)
+pub name_count-none : (gs : List EmailGroup) (email : Text) → AllByRecursion (λ g. folded_email g ≡ folded email → ⊥) gs → name_count (listing gs) email ≡ 0
+name_count-none gs email other = none_of_others (folded email) (listing gs) (other_entries (λ g. folded_email g ≡ folded email → ⊥) (folded email) (λ g. other_text (folded email) (folded_email g)) gs other)
 
-pub name_count-at : (email : Text) (gs : List EmailGroup) (i : ℕ) (g : EmailGroup) → IsStrictlySortedBy text_cmp (map email_key gs) → slice_get gs i ≡ Some g → email_key g ≡ folded email → name_count (listing gs) email ≡ length g.names
+pub name_count-at : (email : Text) (gs : List EmailGroup) (i : ℕ) (g : EmailGroup) → IsStrictlySortedBy text_cmp (map folded_email gs) → slice_get gs i ≡ Some g → folded_email g ≡ folded email → name_count (listing gs) email ≡ length g.names
 unfolding IsStrictlySortedBy
 name_count-at email [] i g up read same = absurd (cc)
 name_count-at email (x ∷ gs) zero g up read same =
     let is : x ≡ g = cc in
     let k = folded email in
-    let here : email_key x ≡ k = ap email_key is ∙ same in
-    let after = other_rows (λ y. text_cmp (email_key x) (email_key y) ≡ Less) k (λ y less. ap (λ t. eq_by_cmp text_cmp t (email_key y)) (sym here) ∙ ap is_eq less) gs (all_map email_key (λ y. text_cmp (email_key x) y ≡ Less) gs up.0) in
-    sum_by-append (λ e. cond (is_name_of k e) 1 0) (rows x) (listing gs)
-    ∙ ap₂ (λ m n. m + n) (rows_counted k x here) (none_of_others k (listing gs) after) ∙ ap (λ y. length y.names + 0) is
+    let here : folded_email x ≡ k = ap folded_email is ∙ same in
+    let after = other_entries (λ y. text_cmp (folded_email x) (folded_email y) ≡ Less) k (λ y less. ap (λ t. eq_by_cmp text_cmp t (folded_email y)) (sym here) ∙ ap is_eq less) gs (all_map folded_email (λ y. text_cmp (folded_email x) y ≡ Less) gs up.0) in
+    sum_by-append (λ e. cond (is_name_of k e) 1 0) (group_entries x) (listing gs)
+    ∙ ap₂ (λ m n. m + n) (entries_counted k x here) (none_of_others k (listing gs) after) ∙ ap (λ y. length y.names + 0) is
     ∙ omega arith
 name_count-at email (x ∷ gs) (suc i) g up read same =
     let k = folded email in
-    let less : text_cmp (email_key x) (email_key g) ≡ Less = all_slice (λ y. text_cmp (email_key x) (email_key y) ≡ Less) gs i g (all_map email_key (λ y. text_cmp (email_key x) y ≡ Less) gs up.0) read in
-    let before : eq_by_cmp text_cmp k (email_key x) ≡ false =
-    ap is_eq (nat_list_cmp_total.antisymm k (email_key x) ∙ ap ordering_reverse (ap (text_cmp (email_key x)) (sym same) ∙ less)) in
-    sum_by-append (λ e. cond (is_name_of k e) 1 0) (rows x) (listing gs)
-    ∙ ap₂ (λ m n. m + n) (none_of_others k (rows x) (all_weaker (rows x) (λ r spelled. ap (λ t. eq_by_cmp text_cmp k (folded t)) spelled ∙ before) (rows_spelled x))) (name_count-at email gs i g up.1 read same)
+    let less : text_cmp (folded_email x) (folded_email g) ≡ Less = all_slice (λ y. text_cmp (folded_email x) (folded_email y) ≡ Less) gs i g (all_map folded_email (λ y. text_cmp (folded_email x) y ≡ Less) gs up.0) read in
+    let before : eq_by_cmp text_cmp k (folded_email x) ≡ false =
+    ap is_eq (nat_list_cmp_total.antisymm k (folded_email x) ∙ ap ordering_reverse (ap (text_cmp (folded_email x)) (sym same) ∙ less)) in
+    sum_by-append (λ e. cond (is_name_of k e) 1 0) (group_entries x) (listing gs)
+    ∙ ap₂ (λ m n. m + n) (none_of_others k (group_entries x) (all_weaker (group_entries x) (λ r spelled. ap (λ t. eq_by_cmp text_cmp k (folded t)) spelled ∙ before) (entries_spelled x))) (name_count-at email gs i g up.1 read same)
     ∙ omega arith
 
 -- ---- the email is missing
 
 module _ (gs : List EmailGroup) (email : Text) (i : ℕ) (le : i ≤ length gs)
-    (missing : IsMissing email_key (folded email) gs i) where
+    (missing : IsMissing folded_email (folded email) gs i) where
   pub scan_at_none : (name : Text) → answer_of (listing gs) name email ≡ None
-  scan_at_none name = scan_missing gs name email (none_has email_key (folded email) gs i le missing)
+  scan_at_none name = scan_missing gs name email (none_has folded_email (folded email) gs i le missing)
 
   pub no_names : name_count (listing gs) email ≡ 0
-  no_names = name_count-none gs email (none_has email_key (folded email) gs i le missing)
+  no_names = name_count-none gs email (none_has folded_email (folded email) gs i le missing)
 
 -- ---- the email is there, with the rows at its index
 
-module _ (gs : List EmailGroup) (are : AreGroups gs) (email : Text) (i : ℕ) (found : IsFound email_key (folded email) gs i)
+module _ (gs : List EmailGroup) (are : AreGroups gs) (email : Text) (i : ℕ) (found : IsFound folded_email (folded email) gs i)
     (pool : Text) (r : RowTexts) (ns : List RowTexts) (read : slice_get gs i ≡ Some (group_of pool r ns)) where
-  same : email_key (group_of pool r ns) ≡ folded email
-  same = found_key email_key (folded email) gs i found (group_of pool r ns) (sym (get_or_from_slice_get gs i (group_of pool r ns) (group_of pool r ns) read))
+  same : folded_email (group_of pool r ns) ≡ folded email
+  same = found_key folded_email (folded email) gs i found (group_of pool r ns) (sym (get_or_from_slice_get gs i (group_of pool r ns) (group_of pool r ns) read))
 
   within : i < length gs
   within = slice_get_within gs i (group_of pool r ns) read
@@ -125,27 +125,27 @@ module _ (gs : List EmailGroup) (are : AreGroups gs) (email : Text) (i : ℕ) (f
   given : (o : Option Span) → IsSome o → Some (unwrap_or (option_map (spelled pool) o) []) ≡ option_map (spelled pool) o
   given o some = grind arith
 
-  pub names_ascend : IsStrictlySortedBy text_cmp (map name_key (map (name_group pool) ns))
+  pub names_ascend : IsStrictlySortedBy text_cmp (map folded_name (map (name_group pool) ns))
   names_ascend = (all_slice IsGroup gs i (group_of pool r ns) are.each read).ascending
 
   pub names_counted : name_count (listing gs) email ≡ length ns
   names_counted = name_count-at email gs i (group_of pool r ns) are.ascending read same ∙ length-map ns (name_group pool)
 
   module _ (name : Text) (j : ℕ) where
-    pub scan_at_name : (d : RowTexts) → AllByRecursion (NameInPool (length pool)) ns → j < length ns → IsFound name_key (folded name) (map (name_group pool) ns) j
+    pub scan_at_name : (d : RowTexts) → AllByRecursion (NameInPool (length pool)) ns → j < length ns → IsFound folded_name (folded name) (map (name_group pool) ns) j
         → answer_of (listing gs) name email ≡ fields_with_spelling email (fields_of pool (get_or ns j d)) (Some (spelled pool (old_span r)))
     scan_at_name d lie lt here =
         let n = name_group pool (get_or ns j d) in
         let inside : j < length (map (name_group pool) ns) = omega (arith, lt, length-map ns (name_group pool)) in
         let at : get_or (map (name_group pool) ns) j n ≡ n = get_or-map (name_group pool) ns j d n lt in
-        let key : name_key n ≡ folded name = found_key name_key (folded name) (map (name_group pool) ns) j here n (sym at) in
+        let key : folded_name n ≡ folded name = found_key folded_name (folded name) (map (name_group pool) ns) j here n (sym at) in
         scan_name_at gs are name email i (group_of pool r ns) within (sym (get_or_from_slice_get gs i (group_of pool r ns) (group_of pool r ns) read)) same j n inside (sym at) key
         ∙ ap (λ o. fields_with_spelling email (record { name = n.new_name; email = o }) (Some (spelled pool (old_span r)))) (given (email_span (get_or ns j d)) (All-from_recursion (NameInPool (length pool)) ns lie j d lt).new_email)
 
-    pub scan_at_email : j ≤ length ns → IsMissing name_key (folded name) (map (name_group pool) ns) j
+    pub scan_at_email : j ≤ length ns → IsMissing folded_name (folded name) (map (name_group pool) ns) j
         → answer_of (listing gs) name email ≡ fields_with_spelling email (fields_of pool r) (Some (spelled pool (old_span r)))
     scan_at_email le none =
         scan_own_at gs are name email i (group_of pool r ns) within (sym (get_or_from_slice_get gs i (group_of pool r ns) (group_of pool r ns) read)) same
-        (none_has name_key (folded name) (map (name_group pool) ns) j (omega (arith, le, length-map ns (name_group pool))) none)
+        (none_has folded_name (folded name) (map (name_group pool) ns) j (omega (arith, le, length-map ns (name_group pool))) none)
 
 pub ruleset name_laws = (names_ascend, names_counted)

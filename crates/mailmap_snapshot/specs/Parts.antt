@@ -1,9 +1,6 @@
 -- An input split into a mailmap and lines with contacts, at its first line `--`.
 use Rattle.std.specs.Prelude.{◌≡◌, ℕ, ◌≤◌, ◌⊎◌, List, [], ◌∷◌, ◌++◌, length}
-
--- a line starts after these bytes: there are none, or they end with a line feed
-abbrev pub EndsLine : List ℕ → Type 0
-EndsLine bytes = (bytes ≡ []) ⊎ ((front : List ℕ) × (bytes ≡ front ++ 10 ∷ []))
+use Rattle.mailmap_grammar.specs.LineParts.{EndsLine}
 
 -- the line `--` with its line end: a line feed, a carriage return and a line feed, or nothing in the last line
 abbrev pub IsDividerLine : List ℕ → Type 0

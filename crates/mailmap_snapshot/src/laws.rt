@@ -9,7 +9,8 @@ ghost use Rattle.mailmap_grammar.specs.CanonicalText.{IsWritable, canonical_text
 ghost use Rattle.mailmap_grammar.specs.Lines.{mappings_of, strict_readings};
 ghost use Rattle.mailmap_snapshot.specs.Contacts.{AreLines, answers, contact_lines};
 ghost use Rattle.mailmap_snapshot.specs.Parts.{IsSplit};
-ghost use Rattle.mailmap_snapshot.specs.Streams.{AnswersFront, AnswersParts};
+ghost use Rattle.mailmap_grammar.specs.LineParts.{AnswersFront};
+ghost use Rattle.mailmap_snapshot.specs.Streams.{AnswersParts};
 ghost use Rattle.std.specs.Cmp.{IsTotalOrder};
 ghost use Rattle.std.specs.declared.cmp.Ordering.{Ordering};
 ghost use Rattle.mailmap_snapshot.specs.SignatureFields.{SignatureFields, cow_fields};
@@ -49,10 +50,10 @@ pub fn law_lines()
 /// the end, all whole lines that were pushed have been answered, and a push appends its answers.
 #[tactic(auto, using(crate::proofs::Streams::stream_laws))]
 pub fn law_stream()
-    ensures begins { (m : List Mapping) (bytes : Text) → AnswersFront m bytes [] bytes }
-    ensures adds_up { (m : List Mapping) (before text kept taken made rest : Text) → AnswersFront m before text kept
-        → AnswersFront m (kept ++ taken) made rest → AnswersFront m (before ++ taken) (text ++ made) rest }
-    ensures ends { (m : List Mapping) (all text kept : Text) → AnswersFront m all text kept
+    ensures begins { (m : List Mapping) (bytes : Text) → AnswersFront (answers m) bytes [] bytes }
+    ensures adds_up { (m : List Mapping) (before text kept taken made rest : Text) → AnswersFront (answers m) before text kept
+        → AnswersFront (answers m) (kept ++ taken) made rest → AnswersFront (answers m) (before ++ taken) (text ++ made) rest }
+    ensures ends { (m : List Mapping) (all text kept : Text) → AnswersFront (answers m) all text kept
         → text ++ answers m kept ≡ answers m all }
     ensures parts { (m : List Mapping) (parts : List Text) (text kept : Text) → AnswersParts m [] parts text kept
         → text ++ answers m kept ≡ answers m (flat_map (λ part. part) parts) }

@@ -15,7 +15,7 @@ use Rattle.mailmap_entries.proofs.Joined.{filter_none}
 use Rattle.mailmap_contacts.specs.Contacts.{Contact, Tally, answer_to, answered, tallied, contact_on, contacts_from, same_contact, tally_on}
 use Rattle.mailmap_contacts.proofs.Steps.{all_filtered}
 use Rattle.mailmap_contacts.proofs.Tallied.{each_tallied, each_untallied}
-use Rattle.mailmap_suggestions.specs.Counted.{counted, by_frequency, git_answered, git_counted, other_git_answers, ranked}
+use Rattle.mailmap_suggestions.specs.Counted.{counted_answers, by_frequency, git_answered, counted_git_answers, other_git_answers, ranked}
 use Rattle.mailmap_suggestions.specs.Forms.{IsAnswered, Stays, alike, distinct, entries_for_email, entries_to, git_answer_to, is_answered, named_form, of_old_email}
 use Rattle.mailmap_suggestions.proofs.Appended.{affects, empty_or, folded_empty, git_without_email, parts_answer, parts_stay, answer_is, fields, git_is, made, own_fields, spelled, accepted_all, fields_all, answered_decides, Concerns, IsWanting, Linked, OfPlain, affected_linked, all_true, answered_by_own, each_entry, email_needed, entries_all, entries_concern, linked_email, of_email_all, unaffected_part}
 use Rattle.mailmap_suggestions.proofs.Distinct.{◌∈◌, all_among, among_passing, at, each, each_pair, equal_bytes, filter_joined, from_filter, in_filter, no_part, same_bytes, somes, all_joined, all_of}
@@ -43,11 +43,11 @@ lines_named buffers = writable_named (flat_map mappings_of buffers) (all_read bu
 
 -- ---- the proper answer
 
-pub each_counted : (P : Contact → Type 0) (h : List Mapping) (g : List Tally) → AllByRecursion (λ c. P (answer_to h c)) (contacts g) → Each P (counted (alike h) g)
+pub each_counted : (P : Contact → Type 0) (h : List Mapping) (g : List Tally) → AllByRecursion (λ c. P (answer_to h c)) (contacts g) → Each P (counted_answers (alike h) g)
 each_counted P h g all = all_by_frequency (λ t. P t.contact) (tallied (map (answered h) g))
     (each_tallied P (map (answered h) g) (all_mapped (answered h) (λ u. P u.contact) g (all_map (λ u. u.contact) (λ c. P (answer_to h c)) g all)))
 
-from_counted : (P : Contact → Type 0) (h : List Mapping) (g : List Tally) → Each P (counted (alike h) g) → AllByRecursion (λ c. P (answer_to h c)) (contacts g)
+from_counted : (P : Contact → Type 0) (h : List Mapping) (g : List Tally) → Each P (counted_answers (alike h) g) → AllByRecursion (λ c. P (answer_to h c)) (contacts g)
 from_counted P h g all = all_mapped (λ u. u.contact) (λ c. P (answer_to h c)) g
     (all_map (answered h) (λ u. P u.contact) g
     (each_untallied P (map (answered h) g) (from_by_frequency (tallied (map (answered h) g)) (λ t. P t.contact) all)))
@@ -56,7 +56,7 @@ from_counted P h g all = all_mapped (λ u. u.contact) (λ c. P (answer_to h c)) 
 pub proper_comes : (h : List Mapping) (g : List Tally) (c : Contact) → c ∈ contacts g → (d : Contact) × (d ∈ contacts g) × (answer_to h d ≡ proper_answer (alike h) g)
 proper_comes h g c i =
     let Comes : Contact → Type 0 = λ a. (d : Contact) × (d ∈ contacts g) × (answer_to h d ≡ a) in
-    all_named Comes (counted (alike h) g)
+    all_named Comes (counted_answers (alike h) g)
     (λ none. at (λ _. ⊥) (contacts g) (from_counted (λ _. ⊥) h g (subst (Each (λ _. ⊥)) (sym none) tt)) c i)
     (each_counted Comes h g (each (λ c. Comes (answer_to h c)) (contacts g) (λ d j. (d, j, refl))))
 
@@ -139,7 +139,7 @@ module _ (h : List Mapping) (ts : List Tally) (shared : Contact → Text) (named
 
   -- it has a name if one has
   pub wanting : (t : Text) → AllByRecursion (IsWanting h (wanted t)) (group t)
-  wanting t = each (IsWanting h (wanted t)) (group t) (λ c i e. at (λ c. (answer_to h c).name ≡ []) (group t) (from_counted (λ c. c.name ≡ []) h (members t) (none_named (counted (alike h) (members t)) e)) c i)
+  wanting t = each (IsWanting h (wanted t)) (group t) (λ c i e. at (λ c. (answer_to h c).name ≡ []) (group t) (from_counted (λ c. c.name ≡ []) h (members t) (none_named (counted_answers (alike h) (members t)) e)) c i)
 
   for_text : (c : Contact) → c ∈ contacts ts → IsAnswered (h ++ part (text c)) (wanted (text c)) c
   unfolding part
@@ -455,14 +455,14 @@ each_ranked P n [] all = tt
 each_ranked P n (t ∷ ts) all = (all.0, each_ranked P (n + 1) ts all.1)
 
 module _ (h : List Mapping) (writable : AllByRecursion IsWritable h) (g : List Tally) (each : Each IsWritableContact g) where
-  each_answer : Each IsWritableContact (counted (alike h) g)
+  each_answer : Each IsWritableContact (counted_answers (alike h) g)
   each_answer = each_counted IsWritableContact h g (all_mapped (λ t. t.contact) (λ c. IsWritableContact (answer_to h c)) g (all_weaker g (λ t w. answer_writable h t.contact writable w) each))
 
   -- what is counted, or ranked, stays as it is
   all_counted : (ts : List Tally) → Each IsWritableContact ts → Each IsWritableContact (by_frequency (tallied ts))
   all_counted ts all = all_by_frequency (λ t. IsWritableContact t.contact) (tallied ts) (each_tallied IsWritableContact ts all)
 
-  each_git_answer : Each IsWritableContact (git_counted (alike h) g)
+  each_git_answer : Each IsWritableContact (counted_git_answers (alike h) g)
   each_git_answer =
       let differs = λ (t : Tally). not (same_contact (git_answer_to h t.contact) (answer_to h t.contact)) in
       let others = other_git_answers (alike h) (by_frequency (tallied g)) in
@@ -473,11 +473,11 @@ module _ (h : List Mapping) (writable : AllByRecursion IsWritable h) (g : List T
   group_said : (b : Bool) → AllByRecursion IsGood (group_entries (alike h) g) → Says (group_text (alike h) b g) (unless_marked b (group_entries (alike h) g))
   group_said b good =
       let es = unless_marked b (group_entries (alike h) g) in
-      let a = count_lines false (counted (alike h) g) in
-      let d = count_lines true (git_counted (alike h) g) in
+      let a = count_lines false (counted_answers (alike h) g) in
+      let d = count_lines true (counted_git_answers (alike h) g) in
       let lines = entry_lines b (group_entries (alike h) g) in
       subst (Says (group_text (alike h) b g)) (append-nil es)
-      (both_said (a ++ d ++ lines) (10 ∷ []) es [] (both_said (a ++ d) lines [] es (both_said a d [] [] (counts_said false (counted (alike h) g) each_answer) (counts_said true (git_counted (alike h) g) each_git_answer)) (entries_said b (group_entries (alike h) g) good))
+      (both_said (a ++ d ++ lines) (10 ∷ []) es [] (both_said (a ++ d) lines [] es (both_said a d [] [] (counts_said false (counted_answers (alike h) g) each_answer) (counts_said true (counted_git_answers (alike h) g) each_git_answer)) (entries_said b (group_entries (alike h) g) good))
       (line_said [] [] tt (λ n. ap (λ t. of_reading (unless_blank line_reading n t)) trim-nil)))
 
 -- ---- the whole text

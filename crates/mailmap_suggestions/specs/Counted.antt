@@ -20,8 +20,8 @@ abbrev pub by_frequency : List Tally → List Tally
 by_frequency [] = []
 by_frequency (t ∷ ts) = inserted t (by_frequency ts)
 
-abbrev pub counted : Histories → List Tally → List Tally
-counted h g = by_frequency (tallied (map (answered h.ours) g))
+abbrev pub counted_answers : Histories → List Tally → List Tally
+counted_answers h g = by_frequency (tallied (map (answered h.ours) g))
 
 -- ---- git's answers
 
@@ -42,5 +42,5 @@ ranked rank [] = []
 ranked rank (t ∷ ts) = ranked_as rank t ∷ ranked (rank + 1) ts
 
 -- git's answers where they differ; of equally frequent ones first that of the most frequent contact
-abbrev pub git_counted : Histories → List Tally → List Tally
-git_counted h g = by_frequency (tallied (ranked 1 (other_git_answers h (by_frequency (tallied g)))))
+abbrev pub counted_git_answers : Histories → List Tally → List Tally
+counted_git_answers h g = by_frequency (tallied (ranked 1 (other_git_answers h (by_frequency (tallied g)))))

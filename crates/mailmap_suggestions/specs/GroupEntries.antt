@@ -8,7 +8,7 @@ use Rattle.mailmap_entries.specs.Entries.{Mapping}
 use Rattle.mailmap_entries.specs.Folding.{Text, folded}
 use Rattle.mailmap_grammar.specs.CanonicalText.{IsWritableEmail, IsWritableName}
 use Rattle.mailmap_contacts.specs.Proper.{proper}
-use Rattle.mailmap_suggestions.specs.Counted.{counted}
+use Rattle.mailmap_suggestions.specs.Counted.{counted_answers}
 use Rattle.mailmap_suggestions.specs.Forms.{Histories, alike, are_answered, distinct, entries_to, git_answer_to, plus}
 
 abbrev pub contacts : List Tally → List Contact
@@ -59,7 +59,7 @@ contact_or_nobody (Some t) = t.contact
 
 -- of those with a name, or of all if none has one, the one that comes most often; of several of these the first
 abbrev pub proper_answer : Histories → List Tally → Contact
-proper_answer h g = contact_or_nobody (proper (counted h g))
+proper_answer h g = contact_or_nobody (proper (counted_answers h g))
 
 -- ---- entries
 

@@ -2,7 +2,7 @@
 use Rattle.std.specs.Prelude.{Bool, true, false, List, ◌++◌, map}
 use Rattle.mailmap_contacts.specs.Contacts.{Tally}
 use Rattle.mailmap_entries.specs.Entries.{Mapping}
-use Rattle.mailmap_suggestions.specs.Counted.{counted, git_counted}
+use Rattle.mailmap_suggestions.specs.Counted.{counted_answers, counted_git_answers}
 use Rattle.mailmap_suggestions.specs.Forms.{Histories, plus}
 use Rattle.mailmap_suggestions.specs.GroupEntries.{email_entries, email_shared, group_entries, groups, name_shared}
 
@@ -17,8 +17,8 @@ pub record Suggestion : Type 0 where
 
 abbrev pub suggestion : Histories → Bool → List Tally → Suggestion
 suggestion h needs_review g = record {
-  answers = counted h g;
-  git_answers = git_counted h g;
+  answers = counted_answers h g;
+  git_answers = counted_git_answers h g;
   entries = group_entries h g;
   needs_review = needs_review;
 }

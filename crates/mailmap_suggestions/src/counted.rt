@@ -3,8 +3,8 @@ ghost use Rattle.std.specs.Prelude.{◌≡◌, IfOk, map};
 ghost use Rattle.mailmap_contacts.specs.Answers.{tally_of};
 ghost use Rattle.mailmap_contacts.specs.Contacts.{tallied};
 ghost use Rattle.mailmap_contacts.specs.Proper.{proper};
-ghost use Rattle.mailmap_suggestions.specs.Counted.{by_frequency, counted, frequency_cmp};
-ghost use Rattle.mailmap_suggestions.specs.Counted.{git_counted, ranked};
+ghost use Rattle.mailmap_suggestions.specs.Counted.{by_frequency as spec_by_frequency, counted_answers, frequency_cmp};
+ghost use Rattle.mailmap_suggestions.specs.Counted.{counted_git_answers, ranked};
 ghost use Rattle.mailmap_suggestions.specs.GroupEntries.{contact_or_nobody};
 
 use crate::answers::Answers;
@@ -22,13 +22,13 @@ pub(crate) fn counted_answers<'a>(
     answers: &Answers<'_, 'a>,
     group: &[Tally<'a>],
 ) -> Result<Vec<Tally<'a>>, AllocError>
-    ensures { IfOk result (λ found. map tally_of found.items ≡ counted answers.now (map tally_of group.now)) }
+    ensures { IfOk result (λ found. map tally_of found.items ≡ counted_answers answers.now (map tally_of group.now)) }
 {
     let mut all = Vec::with_capacity(alloc, group.len())?;
     for contact in group {
         all.push(answers.ours(contact))?;
     }
-    counted(alloc, &all)
+    by_frequency(alloc, &all)
 }
 
 /// The distinct answers of git to the contacts of a group that it answers otherwise than this library: the most
@@ -38,11 +38,11 @@ pub(crate) fn counted_git_answers<'a>(
     answers: &Answers<'_, 'a>,
     group: &[Tally<'a>],
 ) -> Result<Vec<Tally<'a>>, AllocError>
-    ensures { IfOk result (λ found. map tally_of found.items ≡ git_counted answers.now (map tally_of group.now)) }
+    ensures { IfOk result (λ found. map tally_of found.items ≡ counted_git_answers answers.now (map tally_of group.now)) }
 {
-    let contacts = counted(alloc, group)?;
+    let contacts = by_frequency(alloc, group)?;
     let others = answers.others_of_git(alloc, &contacts)?;
-    counted(alloc, &ranked(alloc, &others)?)
+    by_frequency(alloc, &ranked(alloc, &others)?)
 }
 
 // These with their ranks in the place of their first lines.
@@ -65,8 +65,8 @@ fn ranked<'a>(alloc: Global, tallies: &[Tally<'a>]) -> Result<Vec<Tally<'a>>, Al
 }
 
 // Each distinct contact once, with all its occurrences: the most frequent first, of equally frequent ones the first.
-fn counted<'a>(alloc: Global, tallies: &[Tally<'a>]) -> Result<Vec<Tally<'a>>, AllocError>
-    ensures { IfOk result (λ found. map tally_of found.items ≡ by_frequency (tallied (map tally_of tallies.now))) }
+fn by_frequency<'a>(alloc: Global, tallies: &[Tally<'a>]) -> Result<Vec<Tally<'a>>, AllocError>
+    ensures { IfOk result (λ found. map tally_of found.items ≡ spec_by_frequency (tallied (map tally_of tallies.now))) }
 {
     let mut counts = BTreeMap::new(alloc);
     for tally in tallies {

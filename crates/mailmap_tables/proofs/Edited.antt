@@ -11,7 +11,7 @@ use Rattle.std.proofs.lemmas.List.Sums.{sum_by-insert, sum_by-set, sum_by-cons}
 use Rattle.std.proofs.lemmas.Option.{slice_get-get_or, slice_get-map}
 use Rattle.mailmap_entries.specs.Folding.{Text, folded}
 use Rattle.mailmap_entries.specs.Prefixes.{key_prefix}
-use Rattle.mailmap_tables.specs.Groups.{Contents, EmailGroup, listing, name_total, own_rows}
+use Rattle.mailmap_tables.specs.Groups.{Contents, EmailGroup, listing, name_total, unnamed_entries}
 use Rattle.mailmap_tables.specs.Pool.{AreTables, RowInPool, contents, name_group, prefix_of, row_group, row_of}
 use Rattle.mailmap_tables.specs.Pool.{rows_of, spelled, with_email_at}
 use Rattle.mailmap_tables.specs.RowTexts.{old_span}
@@ -149,10 +149,10 @@ module _ {pool : Text} (es : List EmailRow) {prefixes : List ℕ} {count : ℕ}
 -- ---- the number of rows, and why the listing is no longer
 
 -- an email has at most one entry for all names
-own_one : (g : EmailGroup) → length (own_rows g) ≤ 1
-own_one g = grind arith
+unnamed_one : (g : EmailGroup) → length (unnamed_entries g) ≤ 1
+unnamed_one g = grind arith
 
 -- there are no more entries than emails and names
 pub listing_most : (gs : List EmailGroup) → length (listing gs) ≤ length gs + name_total gs
 listing_most [] = omega arith
-listing_most (g ∷ gs) = grind (arith, common_steps, listing_most gs, own_one, sum_by-cons)
+listing_most (g ∷ gs) = grind (arith, common_steps, listing_most gs, unnamed_one, sum_by-cons)

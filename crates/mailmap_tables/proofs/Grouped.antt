@@ -16,8 +16,8 @@ use Rattle.std.proofs.lemmas.List.Elements.{All-from_recursion, filter-append, f
 use Rattle.std.proofs.lemmas.Map.Keys.{sorted_head, sorted_tail}
 use Rattle.mailmap_entries.specs.Entries.{Mapping}
 use Rattle.mailmap_entries.specs.Folding.{Text, folded, text_cmp}
-use Rattle.mailmap_tables.specs.Groups.{AreGroups, Contents, EmailGroup, IsGroup, NameGroup, email_key, listing}
-use Rattle.mailmap_tables.specs.Groups.{name_fields, name_key, name_row, own_rows, rows}
+use Rattle.mailmap_tables.specs.Groups.{AreGroups, Contents, EmailGroup, IsGroup, NameGroup, folded_email, listing}
+use Rattle.mailmap_tables.specs.Groups.{name_fields, folded_name, name_entry, unnamed_entries, group_entries}
 use Rattle.mailmap_entries.specs.Building.{IsListing, IsPaired}
 use Rattle.mailmap_entries.specs.Semantics.{Fields, key, key_cmp, first, last, last_given, is_accepted, accepted}
 use Rattle.mailmap_entries.specs.Semantics.{of_email, of_key, has_key, given_fields, last_fields, new_fields}
@@ -43,40 +43,40 @@ every f [] = tt
 every f (x ∷ xs) = (f x, every f xs)
 
 -- a predicate that holds for every row of a name
-pub all_rows : (P : Mapping → Type 0) (email : Text) (ns : List NameGroup) → ((n : NameGroup) → P (name_row email n))
-    → AllByRecursion P (map (name_row email) ns)
-all_rows P email ns f = all_mapped (name_row email) P ns (every f ns)
+pub all_rows : (P : Mapping → Type 0) (email : Text) (ns : List NameGroup) → ((n : NameGroup) → P (name_entry email n))
+    → AllByRecursion P (map (name_entry email) ns)
+all_rows P email ns f = all_mapped (name_entry email) P ns (every f ns)
 
 -- a predicate that holds for the row that an email may have for all names
-own_all : (P : Mapping → Type 0) (g : EmailGroup) → ((is_some g.own.name || is_some g.own.email) ≡ true
-    → P (mapping_with g.own None g.old_email)) → AllByRecursion P (own_rows g)
-own_all P g f = grind (arith, common_steps)
+unnamed_all : (P : Mapping → Type 0) (g : EmailGroup) → ((is_some g.unnamed.name || is_some g.unnamed.email) ≡ true
+    → P (mapping_with g.unnamed None g.old_email)) → AllByRecursion P (unnamed_entries g)
+unnamed_all P g f = grind (arith, common_steps)
 
--- all rows of an email have its spelling
-pub rows_spelled : (g : EmailGroup) → AllByRecursion (λ r. r.old_email ≡ g.old_email) (rows g)
-rows_spelled g = all_append _ (own_rows g) (map (name_row g.old_email) g.names) (own_all _ g (λ _. refl))
+-- all entries of an email have its spelling
+pub entries_spelled : (g : EmailGroup) → AllByRecursion (λ r. r.old_email ≡ g.old_email) (group_entries g)
+entries_spelled g = all_append _ (unnamed_entries g) (map (name_entry g.old_email) g.names) (unnamed_all _ g (λ _. refl))
     (all_rows _ g.old_email g.names (λ n. refl))
 
--- all rows of an email are accepted
-pub rows_accepted : (g : EmailGroup) → AllByRecursion (λ e. is_accepted e ≡ true) (rows g)
-rows_accepted g = all_append _ (own_rows g) (map (name_row g.old_email) g.names) (own_all _ g (λ given. given))
+-- all entries of an email are accepted
+pub entries_accepted : (g : EmailGroup) → AllByRecursion (λ e. is_accepted e ≡ true) (group_entries g)
+entries_accepted g = all_append _ (unnamed_entries g) (map (name_entry g.old_email) g.names) (unnamed_all _ g (λ given. given))
     (all_rows _ g.old_email g.names (λ n. or_right (is_some n.new_name) true refl))
 
--- what holds for the rows of each group holds for all entries
-pub listing_all : (P : Mapping → Type 0) (gs : List EmailGroup) → AllByRecursion (λ g. AllByRecursion P (rows g)) gs
+-- what holds for the entries of each group holds for all entries
+pub listing_all : (P : Mapping → Type 0) (gs : List EmailGroup) → AllByRecursion (λ g. AllByRecursion P (group_entries g)) gs
     → AllByRecursion P (listing gs)
 listing_all P [] a = tt
-listing_all P (g ∷ gs) a = all_append P (rows g) (listing gs) a.0 (listing_all P gs a.1)
+listing_all P (g ∷ gs) a = all_append P (group_entries g) (listing gs) a.0 (listing_all P gs a.1)
 
 -- all entries of groups are accepted
 pub groups_accepted : (gs : List EmailGroup) → AllByRecursion (λ e. is_accepted e ≡ true) (listing gs)
-groups_accepted gs = listing_all _ gs (every rows_accepted gs)
+groups_accepted gs = listing_all _ gs (every entries_accepted gs)
 
 -- accepted entries after those of groups are accepted
 pub ruleset listed_accepted = (common_steps, all_append, groups_accepted, map-append)
 
 pub listing-append : (xs ys : List EmailGroup) → listing (xs ++ ys) ≡ listing xs ++ listing ys
-listing-append xs ys = flat_map-append rows xs ys
+listing-append xs ys = flat_map-append group_entries xs ys
 
 -- ---- the listing is a normal list
 
@@ -132,33 +132,33 @@ by_name : (email : Text) (a b : Option Text) → option_cmp text_cmp a b ≡ Les
 by_name email a b less =
     ap (λ o. ordering_then o (option_cmp text_cmp a b)) (tied_itself nat_list_cmp_total email) ∙ less
 
-names_sorted : (email : Text) (ns : List NameGroup) → IsStrictlySortedBy text_cmp (map name_key ns)
-    → IsStrictlySortedBy key_cmp (map key (map (name_row email) ns))
+names_sorted : (email : Text) (ns : List NameGroup) → IsStrictlySortedBy text_cmp (map folded_name ns)
+    → IsStrictlySortedBy key_cmp (map key (map (name_entry email) ns))
 unfolding IsStrictlySortedBy
 names_sorted email [] s = tt
 names_sorted email (n ∷ ns) s = (
-  all_mapped key _ (map (name_row email) ns) (all_mapped (name_row email) _ ns (all_weaker ns
-      (λ x. by_name (folded email) (Some (name_key n)) (Some (name_key x))) (all_map name_key _ ns s.0))),
+  all_mapped key _ (map (name_entry email) ns) (all_mapped (name_entry email) _ ns (all_weaker ns
+      (λ x. by_name (folded email) (Some (folded_name n)) (Some (folded_name x))) (all_map folded_name _ ns s.0))),
   names_sorted email ns s.1,
 )
 
-rows_sorted : (g : EmailGroup) → IsStrictlySortedBy text_cmp (map name_key g.names)
-    → IsStrictlySortedBy key_cmp (map key (rows g))
+entries_sorted : (g : EmailGroup) → IsStrictlySortedBy text_cmp (map folded_name g.names)
+    → IsStrictlySortedBy key_cmp (map key (group_entries g))
 unfolding IsStrictlySortedBy
-rows_sorted g s =
-    sorted_entries (own_rows g) (map (name_row g.old_email) g.names) (grind (arith, common_steps))
+entries_sorted g s =
+    sorted_entries (unnamed_entries g) (map (name_entry g.old_email) g.names) (grind (arith, common_steps))
     (names_sorted g.old_email g.names s)
-    (own_all _ g (λ _. all_rows _ g.old_email g.names (λ n. by_name (email_key g) None (Some (name_key n)) refl)))
+    (unnamed_all _ g (λ _. all_rows _ g.old_email g.names (λ n. by_name (folded_email g) None (Some (folded_name n)) refl)))
 
-listing_sorted : (gs : List EmailGroup) → IsStrictlySortedBy text_cmp (map email_key gs) → AllByRecursion IsGroup gs
+listing_sorted : (gs : List EmailGroup) → IsStrictlySortedBy text_cmp (map folded_email gs) → AllByRecursion IsGroup gs
     → IsStrictlySortedBy key_cmp (map key (listing gs))
 unfolding IsStrictlySortedBy
 listing_sorted [] s each = tt
 listing_sorted (g ∷ gs) s each =
-    sorted_entries (rows g) (listing gs) (rows_sorted g each.0.ascending) (listing_sorted gs s.1 each.1)
-    (all_weaker (rows g) (λ x same. listing_all _ gs (all_weaker gs (λ z less. all_weaker (rows z)
-    (λ y alike. less_email x y (ap₂ (λ a b. text_cmp (folded a) (folded b)) same alike ∙ less)) (rows_spelled z))
-    (all_map email_key (λ k. text_cmp (email_key g) k ≡ Less) gs s.0))) (rows_spelled g))
+    sorted_entries (group_entries g) (listing gs) (entries_sorted g each.0.ascending) (listing_sorted gs s.1 each.1)
+    (all_weaker (group_entries g) (λ x same. listing_all _ gs (all_weaker gs (λ z less. all_weaker (group_entries z)
+    (λ y alike. less_email x y (ap₂ (λ a b. text_cmp (folded a) (folded b)) same alike ∙ less)) (entries_spelled z))
+    (all_map folded_email (λ k. text_cmp (folded_email g) k ≡ Less) gs s.0))) (entries_spelled g))
   where
     less_email : (x y : Mapping) → text_cmp (folded x.old_email) (folded y.old_email) ≡ Less
         → key_cmp (key x) (key y) ≡ Less
@@ -173,18 +173,18 @@ filter_alike p false xs a = filter_none p xs a
 
 -- the entries for an email are those of the groups that have it
 picked : (k : Text) (gs : List EmailGroup) → of_email (listing gs) k
-    ≡ listing (filter (λ g. eq_by_cmp text_cmp k (email_key g)) gs)
+    ≡ listing (filter (λ g. eq_by_cmp text_cmp k (folded_email g)) gs)
 picked k [] = refl
 picked k (g ∷ gs) =
     let p = λ (x : Mapping). eq_by_cmp text_cmp k (folded x.old_email) in
-    let b = eq_by_cmp text_cmp k (email_key g) in
-    let here : filter p (accepted (rows g)) ≡ cond b (rows g) [] = ap (filter p) (filter_all is_accepted (rows g)
-    (rows_accepted g)) ∙ filter_alike p b (rows g) (all_weaker (rows g) (λ x same. ap (λ t. eq_by_cmp text_cmp k
-    (folded t)) same) (rows_spelled g)) in
-    picked-append p (rows g) (listing gs) ∙ ap₂ (λ l m. l ++ m) here (picked k gs)
-    ∙ joined b (filter (λ g. eq_by_cmp text_cmp k (email_key g)) gs)
+    let b = eq_by_cmp text_cmp k (folded_email g) in
+    let here : filter p (accepted (group_entries g)) ≡ cond b (group_entries g) [] = ap (filter p) (filter_all is_accepted (group_entries g)
+    (entries_accepted g)) ∙ filter_alike p b (group_entries g) (all_weaker (group_entries g) (λ x same. ap (λ t. eq_by_cmp text_cmp k
+    (folded t)) same) (entries_spelled g)) in
+    picked-append p (group_entries g) (listing gs) ∙ ap₂ (λ l m. l ++ m) here (picked k gs)
+    ∙ joined b (filter (λ g. eq_by_cmp text_cmp k (folded_email g)) gs)
   where
-    joined : (b : Bool) (hs : List EmailGroup) → cond b (rows g) [] ++ listing hs ≡ listing (cond b (g ∷ hs) hs)
+    joined : (b : Bool) (hs : List EmailGroup) → cond b (group_entries g) [] ++ listing hs ≡ listing (cond b (g ∷ hs) hs)
     joined b hs = grind arith
 
 -- texts that don't compare as equal
@@ -194,62 +194,62 @@ apart_less x y p e =
 
 -- no other of the groups has its key
 abbrev IsOnly : List EmailGroup → EmailGroup → Type 0
-IsOnly gs g = filter (λ h. eq_by_cmp text_cmp (email_key g) (email_key h)) gs ≡ g ∷ []
+IsOnly gs g = filter (λ h. eq_by_cmp text_cmp (folded_email g) (folded_email h)) gs ≡ g ∷ []
 
 abbrev has_name : Option Text → Mapping → Bool
 has_name o e = eq_by_cmp (option_cmp text_cmp) o (key e).1
 
 module _ (gs : List EmailGroup) {g : EmailGroup} (is : IsGroup g) (only : IsOnly gs g) where
-  its_rows : of_email (listing gs) (email_key g) ≡ rows g
-  its_rows = picked (email_key g) gs ∙ ap listing only ∙ append-nil (rows g)
+  its_entries : of_email (listing gs) (folded_email g) ≡ group_entries g
+  its_entries = picked (folded_email g) gs ∙ ap listing only ∙ append-nil (group_entries g)
 
-  spelled_at : spelling (listing gs) (email_key g) ≡ Some g.old_email
-  spelled_at = ap (λ l. option_map (λ e. e.old_email) (first l)) its_rows ∙ at (rows g) is.says (rows_spelled g)
+  spelled_at : spelling (listing gs) (folded_email g) ≡ Some g.old_email
+  spelled_at = ap (λ l. option_map (λ e. e.old_email) (first l)) its_entries ∙ at (group_entries g) is.says (entries_spelled g)
     where
       at : (rs : List Mapping) → rs ≢ [] → AllByRecursion (λ r. r.old_email ≡ g.old_email) rs
           → option_map (λ e. e.old_email) (first rs) ≡ Some g.old_email
       at [] some same = absurd (some refl)
       at (r ∷ rs) some same = ap (λ t. Some t) same.0
 
-  named : (o : Option Text) → of_key (listing gs) (email_key g, o)
-      ≡ filter (has_name o) (own_rows g) ++ filter (has_name o) (map (name_row g.old_email) g.names)
+  named : (o : Option Text) → of_key (listing gs) (folded_email g, o)
+      ≡ filter (has_name o) (unnamed_entries g) ++ filter (has_name o) (map (name_entry g.old_email) g.names)
   named o =
-      let mailed = λ (e : Mapping). eq_by_cmp text_cmp (email_key g) (folded e.old_email) in
-      filter_agree (λ e. eq_by_cmp key_cmp (email_key g, o) (key e)) (λ e. mailed e && has_name o e)
-      (λ e. both_equal (text_cmp (email_key g) (folded e.old_email)) (option_cmp text_cmp o (key e).1))
+      let mailed = λ (e : Mapping). eq_by_cmp text_cmp (folded_email g) (folded e.old_email) in
+      filter_agree (λ e. eq_by_cmp key_cmp (folded_email g, o) (key e)) (λ e. mailed e && has_name o e)
+      (λ e. both_equal (text_cmp (folded_email g) (folded e.old_email)) (option_cmp text_cmp o (key e).1))
       (accepted (listing gs)) ∙ sym (filter-filter (has_name o) mailed (accepted (listing gs)))
-      ∙ ap (filter (has_name o)) its_rows
-      ∙ filter-append (has_name o) (own_rows g) (map (name_row g.old_email) g.names)
+      ∙ ap (filter (has_name o)) its_entries
+      ∙ filter-append (has_name o) (unnamed_entries g) (map (name_entry g.old_email) g.names)
 
   -- the fields without an old name
-  given_at : given_fields (listing gs) (email_key g) ≡ g.own
+  given_at : given_fields (listing gs) (folded_email g) ≡ g.unnamed
   given_at =
-      let here : of_key (listing gs) (email_key g, None) ≡ own_rows g = named None ∙ ap₂ (λ l m. l ++ m)
-      (filter_all (has_name None) (own_rows g) (own_all (λ e. has_name None e ≡ true) g (λ _. refl)))
-      (filter_none (has_name None) (map (name_row g.old_email) g.names)
-      (all_rows (λ e. has_name None e ≡ false) g.old_email g.names (λ n. refl))) ∙ append-nil (own_rows g) in
-      rw here (own_given g.own)
+      let here : of_key (listing gs) (folded_email g, None) ≡ unnamed_entries g = named None ∙ ap₂ (λ l m. l ++ m)
+      (filter_all (has_name None) (unnamed_entries g) (unnamed_all (λ e. has_name None e ≡ true) g (λ _. refl)))
+      (filter_none (has_name None) (map (name_entry g.old_email) g.names)
+      (all_rows (λ e. has_name None e ≡ false) g.old_email g.names (λ n. refl))) ∙ append-nil (unnamed_entries g) in
+      rw here (unnamed_given g.unnamed)
     where
       given : List Mapping → Fields
       given l = record { name = last_given (λ x. x.new_name) l; email = last_given (λ x. x.new_email) l }
 
-      own_given : (f : Fields)
+      unnamed_given : (f : Fields)
           → given (if is_some f.name || is_some f.email then mapping_with f None g.old_email ∷ [] else []) ≡ f
-      own_given f = grind arith
+      unnamed_given f = grind arith
 
   -- the entries for a name
-  named_at : (k : Text) → of_key (listing gs) (email_key g, Some k)
-      ≡ map (name_row g.old_email) (filter (λ n. eq_by_cmp text_cmp k (name_key n)) g.names)
+  named_at : (k : Text) → of_key (listing gs) (folded_email g, Some k)
+      ≡ map (name_entry g.old_email) (filter (λ n. eq_by_cmp text_cmp k (folded_name n)) g.names)
   named_at k = named (Some k) ∙ ap₂ (λ l m. l ++ m)
-      (filter_none (has_name (Some k)) (own_rows g) (own_all (λ e. has_name (Some k) e ≡ false) g (λ _. refl)))
-      (filter-map (has_name (Some k)) (name_row g.old_email) g.names)
+      (filter_none (has_name (Some k)) (unnamed_entries g) (unnamed_all (λ e. has_name (Some k) e ≡ false) g (λ _. refl)))
+      (filter-map (has_name (Some k)) (name_entry g.old_email) g.names)
 
 listing_spelled : (gs : List EmailGroup) → AreGroups gs
     → AllByRecursion (λ e. spelling (listing gs) (folded e.old_email) ≡ Some e.old_email) (listing gs)
 listing_spelled gs are =
-    listing_all _ gs (all_apply IsGroup (IsOnly gs) _ (λ g is only. all_weaker (rows g) (λ r same. ap (λ t. spelling (listing gs)
-    (folded t)) same ∙ spelled_at gs is only ∙ ap (λ t. Some t) (sym same)) (rows_spelled g)) gs are.each
-    (alone nat_list_cmp_total email_key gs are.ascending))
+    listing_all _ gs (all_apply IsGroup (IsOnly gs) _ (λ g is only. all_weaker (group_entries g) (λ r same. ap (λ t. spelling (listing gs)
+    (folded t)) same ∙ spelled_at gs is only ∙ ap (λ t. Some t) (sym same)) (entries_spelled g)) gs are.each
+    (alone nat_list_cmp_total folded_email gs are.ascending))
 
 -- the entries of groups are their own normal list
 pub groups_normal : (gs : List EmailGroup) → AreGroups gs → IsNormal (listing gs) (listing gs)
@@ -263,9 +263,9 @@ groups_listing gs are = record {
   paired = All-from_recursion IsPaired (listing gs) (listing_all IsPaired gs (every each gs));
 }
   where
-    each : (g : EmailGroup) → AllByRecursion IsPaired (rows g)
-    each g = all_append IsPaired (own_rows g) (map (name_row g.old_email) g.names)
-        (own_all IsPaired g (λ _ named. absurd (true≢false (sym named)))) (all_rows IsPaired g.old_email g.names
+    each : (g : EmailGroup) → AllByRecursion IsPaired (group_entries g)
+    each g = all_append IsPaired (unnamed_entries g) (map (name_entry g.old_email) g.names)
+        (unnamed_all IsPaired g (λ _ named. absurd (true≢false (sym named)))) (all_rows IsPaired g.old_email g.names
         (λ n _. refl))
 
 -- ---- the answer to a signature
@@ -278,11 +278,11 @@ module _ (gs : List EmailGroup) (are : AreGroups gs) where
   at_email : (i : ℕ) (g : EmailGroup) → i < length gs → g ≡ get_or gs i g → IsGroup g × IsOnly gs g
   at_email i g lt read = (
     at_index IsGroup gs are.each i g lt read,
-    at_index (IsOnly gs) gs (alone nat_list_cmp_total email_key gs are.ascending) i g lt read,
+    at_index (IsOnly gs) gs (alone nat_list_cmp_total folded_email gs are.ascending) i g lt read,
   )
 
   pub spelled_there : (i : ℕ) (g : EmailGroup) → i < length gs → g ≡ get_or gs i g
-      → spelling (listing gs) (email_key g) ≡ Some g.old_email
+      → spelling (listing gs) (folded_email g) ≡ Some g.old_email
   spelled_there i g lt read = let w = at_email i g lt read in spelled_at gs w.0 w.1
 
 module _ (gs : List EmailGroup) (are : AreGroups gs) (name email : Text) (i : ℕ) (g : EmailGroup) (lt : i < length gs)
@@ -294,12 +294,12 @@ module _ (gs : List EmailGroup) (are : AreGroups gs) (name email : Text) (i : �
   only = (at_email gs are i g lt read).1
 
   -- by the names of the email that are equal to the given one
-  answer_at : (ns : List NameGroup) → filter (λ n. eq_by_cmp text_cmp (folded name) (name_key n)) g.names ≡ ns
+  answer_at : (ns : List NameGroup) → filter (λ n. eq_by_cmp text_cmp (folded name) (folded_name n)) g.names ≡ ns
       → answer_of (listing gs) name email ≡ fields_with_spelling email
-      (unwrap_or (option_map new_fields (last (map (name_row g.old_email) ns))) g.own) (Some g.old_email)
+      (unwrap_or (option_map new_fields (last (map (name_entry g.old_email) ns))) g.unnamed) (Some g.old_email)
   answer_at ns these =
       let keyed = ap (λ t. of_key (listing gs) (t, Some (folded name))) (sym same) ∙ named_at gs is only (folded name)
-      ∙ ap (map (name_row g.old_email)) these in
+      ∙ ap (map (name_entry g.old_email)) these in
       let given = ap (given_fields (listing gs)) (sym same) ∙ given_at gs is only in
       let spelled = ap (spelling (listing gs)) (sym same) ∙ spelled_at gs is only in
       λ j. fields_with_spelling email (unwrap_or (option_map new_fields (last (keyed j))) (given j)) (spelled j)
@@ -309,24 +309,24 @@ module _ (gs : List EmailGroup) (are : AreGroups gs) (name email : Text) (i : �
       → folded n.old_name ≡ folded name
       → answer_of (listing gs) name email ≡ fields_with_spelling email (name_fields n) (Some g.old_email)
   scan_name_at j n lt_name read_name same_name =
-      answer_at (n ∷ []) (ap (λ t. filter (λ n. eq_by_cmp text_cmp t (name_key n)) g.names) (sym same_name)
-      ∙ at_index (λ n. filter (λ m. eq_by_cmp text_cmp (name_key n) (name_key m)) g.names ≡ n ∷ []) g.names
-      (alone nat_list_cmp_total name_key g.names is.ascending) j n lt_name read_name)
+      answer_at (n ∷ []) (ap (λ t. filter (λ n. eq_by_cmp text_cmp t (folded_name n)) g.names) (sym same_name)
+      ∙ at_index (λ n. filter (λ m. eq_by_cmp text_cmp (folded_name n) (folded_name m)) g.names ≡ n ∷ []) g.names
+      (alone nat_list_cmp_total folded_name g.names is.ascending) j n lt_name read_name)
 
   -- if it isn't
-  pub scan_own_at : AllByRecursion (λ n. name_key n ≡ folded name → ⊥) g.names
-      → answer_of (listing gs) name email ≡ fields_with_spelling email g.own (Some g.old_email)
+  pub scan_own_at : AllByRecursion (λ n. folded_name n ≡ folded name → ⊥) g.names
+      → answer_of (listing gs) name email ≡ fields_with_spelling email g.unnamed (Some g.old_email)
   scan_own_at other = answer_at [] (filter_none _ g.names (all_weaker g.names
-      (λ n no. other_text (folded name) (name_key n) no) other))
+      (λ n no. other_text (folded name) (folded_name n) no) other))
 
 -- the answer if the email isn't there
-pub scan_missing : (gs : List EmailGroup) (name email : Text) → AllByRecursion (λ g. email_key g ≡ folded email → ⊥) gs
+pub scan_missing : (gs : List EmailGroup) (name email : Text) → AllByRecursion (λ g. folded_email g ≡ folded email → ⊥) gs
     → answer_of (listing gs) name email ≡ None
 scan_missing gs name email other =
     let f : Fields = unwrap_or (last_fields (listing gs) (folded email, Some (folded name))) (given_fields (listing gs)
     (folded email)) in
     ap (λ l. fields_with_spelling email f (option_map (λ e. e.old_email) (first l))) (picked (folded email) gs
-    ∙ ap listing (filter_none _ gs (all_weaker gs (λ g no. other_text (folded email) (email_key g) no) other)))
+    ∙ ap listing (filter_none _ gs (all_weaker gs (λ g no. other_text (folded email) (folded_email g) no) other)))
 
 -- ---- elements that no search finds
 
@@ -349,10 +349,10 @@ no_groups = record { ascending = tt; each = tt }
 module _ (t : Contents) (email : Text) (ns : List RowTexts) (i : ℕ) (none : ns ≡ []) where
   -- without a name left, the next email follows
   pub next_email : (r : RowTexts) (rest : List RowTexts) → slice_get t.groups i ≡ Some (group_of t.pool r rest)
-      → left_to_list t email ns i ≡ own_rows (group_of t.pool r []) ++ left_to_list t (spelled t.pool (old_span r)) rest
+      → left_to_list t email ns i ≡ unnamed_entries (group_of t.pool r []) ++ left_to_list t (spelled t.pool (old_span r)) rest
       (i + 1)
   next_email r rest read =
       let g : EmailGroup = group_of t.pool r rest in
       let lt : i < length t.groups = slice_get_within t.groups i g read in
       rw (none, drop_more t.groups i g lt, get_or_from_slice_get t.groups i g g read)
-      (append_assoc (own_rows g) (map (name_row g.old_email) g.names) (listing (drop (i + 1) t.groups)))
+      (append_assoc (unnamed_entries g) (map (name_entry g.old_email) g.names) (listing (drop (i + 1) t.groups)))

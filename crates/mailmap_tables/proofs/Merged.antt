@@ -8,7 +8,7 @@ use Rattle.mailmap_entries.specs.Folding.{Text}
 use Rattle.std.specs.Option.{option_or}
 use Rattle.mailmap_entries.proofs.Alike.{Alike, alike_itself, alike_joined, alike_back, same_normal}
 use Rattle.mailmap_entries.proofs.Joined.{alike_trans}
-use Rattle.mailmap_tables.specs.Put.{AreAccepted, with_email, IsPut}
+use Rattle.mailmap_tables.specs.Put.{AreAccepted, with_email, IsPutInto}
 use Rattle.std.proofs.lemmas.Bool.Decides.{nat_tests}
 use Rattle.std.specs.Iterator.{Drains, Yields}
 use Rattle.mailmap_entries.specs.declared.entry.Entry.{Entry}
@@ -33,7 +33,7 @@ none_put f xs {gs} are = record {
 }
 
 module _ {X : Type 0} (f : X → Mapping) (xs : List X) {old new : List EmailGroup} where
-  pub start_put : {i index : ℕ} {m : Mapping} → Alike (map f (take i xs)) (m ∷ []) → IsPut m old index new
+  pub start_put : {i index : ℕ} {m : Mapping} → Alike (map f (take i xs)) (m ∷ []) → IsPutInto m old index new
       → ArePut f xs old i new
   start_put {i} {m = m} alike put = record {
     groups = put.groups;
@@ -42,7 +42,7 @@ module _ {X : Type 0} (f : X → Mapping) (xs : List X) {old new : List EmailGro
   }
 
   pub one_put : {here : List EmailGroup} {i index : ℕ} (x : X) → i < length xs → x ≡ get_or xs i x
-      → ArePut f xs old i here → IsPut (f x) here index new → ArePut f xs old (i + 1) new
+      → ArePut f xs old i here → IsPutInto (f x) here index new → ArePut f xs old (i + 1) new
   one_put {here} {i} x lt read before put = record {
     groups = put.groups;
     normal = rw (map_more f xs i x lt, ← read, ← append_assoc (listing old) (map f (take i xs)) (f x ∷ []))

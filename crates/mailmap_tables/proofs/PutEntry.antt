@@ -30,10 +30,10 @@ use Rattle.mailmap_entries.proofs.Normal.{old_email_is}
 use Rattle.mailmap_entries.proofs.Parts.{all_apply, all_map, all_tail}
 use Rattle.mailmap_batches.specs.Batches.{email_text}
 use Rattle.mailmap_batches.proofs.Respelled.{alike_respelled}
-use Rattle.mailmap_tables.specs.Groups.{AreGroups, EmailGroup, IsGroup, NameGroup, email_key, listing, name_key}
-use Rattle.mailmap_tables.specs.Groups.{name_row, own_rows, rows}
+use Rattle.mailmap_tables.specs.Groups.{AreGroups, EmailGroup, IsGroup, NameGroup, folded_email, listing, folded_name}
+use Rattle.mailmap_tables.specs.Groups.{name_entry, unnamed_entries, group_entries}
 use Rattle.mailmap_tables.specs.KeySearch.{IsFound, IsMissing}
-use Rattle.mailmap_tables.specs.Put.{IsPut, with_email}
+use Rattle.mailmap_tables.specs.Put.{IsPutInto, with_email}
 use Rattle.mailmap_tables.proofs.Edited.{all_set}
 use Rattle.mailmap_tables.proofs.Grouped.{groups_normal, listing-append, spelled_there}
 use Rattle.mailmap_tables.proofs.KeySearch.{all_insert, found_key, missing_inserted, set_parts, whole_parts}
@@ -72,15 +72,15 @@ module _ (front mid back n : List Mapping) (u v : Mapping) (parts : n ≡ front 
       (alike_joined front (mid ++ (back ++ u ∷ [])) front (v ∷ back) (alike_itself front)
       (alike_trans (mid ++ (back ++ u ∷ [])) (mid ++ u ∷ back) (v ∷ back) moved done))
 
--- ---- an entry in groups, whose email has the rows h then
+-- ---- an entry in groups, whose email has the entries h then
 
-abbrev found_rows : Option EmailGroup → List Mapping
-found_rows None = []
-found_rows (Some g) = rows g
+abbrev found_entries : Option EmailGroup → List Mapping
+found_entries None = []
+found_entries (Some g) = group_entries g
 
 put_in_groups : (before after : List EmailGroup) (o : Option EmailGroup) (h : EmailGroup)
     (front mid back : List Mapping) (u v : Mapping) → AreGroups (before ++ h ∷ after)
-    → found_rows o ≡ front ++ (mid ++ back) → rows h ≡ front ++ v ∷ back → key u ≡ key v → u.old_email ≡ v.old_email
+    → found_entries o ≡ front ++ (mid ++ back) → group_entries h ≡ front ++ v ∷ back → key u ≡ key v → u.old_email ≡ v.old_email
     → Alike (mid ++ u ∷ []) (v ∷ [])
     → IsNormal (listing (before ++ cons_option o after) ++ u ∷ []) (listing (before ++ h ∷ after))
 put_in_groups before after o h front mid back u v are old new same email here =
@@ -98,7 +98,7 @@ put_in_groups before after o h front mid back u v are old new same email here =
     same_normal n _ n (alike_back _ n
     (rw whole (put_among (lower ++ front) mid (back ++ higher) n u v parts normal same email here))) normal
   where
-    parted : (o : Option EmailGroup) → listing (cons_option o after) ≡ found_rows o ++ listing after
+    parted : (o : Option EmailGroup) → listing (cons_option o after) ≡ found_entries o ++ listing after
     parted o = grind arith
 
 some : (front : List Mapping) (v : Mapping) (back : List Mapping) → front ++ v ∷ back ≢ []
@@ -110,7 +110,7 @@ abbrev pub said : Text → Mapping → NameGroup
 said old_name m = record { old_name = old_name; new_name = m.new_name; new_email = unwrap_or m.new_email [] }
 
 pub rows_of_fields : (m : Mapping) → is_accepted m ≡ true → m.old_name ≡ None
-    → rows (record { old_email = m.old_email; own = new_fields m; names = [] }) ≡ m ∷ []
+    → group_entries (record { old_email = m.old_email; unnamed = new_fields m; names = [] }) ≡ m ∷ []
 rows_of_fields m good none = grind arith
 
 some_or : (o : Option Text) → IsSome o → Some (unwrap_or o []) ≡ o
@@ -118,11 +118,11 @@ some_or o s = grind arith
 
 -- the row of a name with the fields of an entry
 said_row : (m : Mapping) (old_name : Text) → m.old_name ≡ Some old_name → IsSome m.new_email → (email : Text)
-    → name_row email (said old_name m) ≡ with_email email m
+    → name_entry email (said old_name m) ≡ with_email email m
 said_row m old_name is some email = grind (arith, some_or)
 
 pub rows_of_name : (m : Mapping) (old_name : Text) → m.old_name ≡ Some old_name → IsSome m.new_email
-    → rows (record { old_email = m.old_email; own = no_fields; names = said old_name m ∷ [] }) ≡ m ∷ []
+    → group_entries (record { old_email = m.old_email; unnamed = no_fields; names = said old_name m ∷ [] }) ≡ m ∷ []
 rows_of_name m old_name is some = grind (arith, some_or)
 
 -- an entry with an old name has a new email
@@ -137,24 +137,24 @@ given_or given existing = record {
 }
 
 own_once : (g : EmailGroup) (u : Mapping) → u.old_name ≡ None → u.old_email ≡ g.old_email → is_accepted u ≡ true
-    → Alike (own_rows g ++ u ∷ []) (mapping_with (given_or (new_fields u) g.own) None g.old_email ∷ [])
+    → Alike (unnamed_entries g ++ u ∷ []) (mapping_with (given_or (new_fields u) g.unnamed) None g.old_email ∷ [])
 own_once g u plain same good = grind (arith, common_steps)
 
 -- an entry replaces the fields of a name
 name_combined : (e old_name : Text) (k : NameGroup) (m : Mapping) → m.old_name ≡ Some old_name → IsSome m.new_email
-    → name_key k ≡ folded old_name → Alike (name_row e k ∷ with_email e m ∷ []) (name_row e (said k.old_name m) ∷ [])
+    → folded_name k ≡ folded old_name → Alike (name_entry e k ∷ with_email e m ∷ []) (name_entry e (said k.old_name m) ∷ [])
 name_combined e old_name k m is some same = grind (arith, common_steps)
 
 module _ (m : Mapping) {gs : List EmailGroup} (are : AreGroups gs) (i : ℕ) where
-  pub put_missing : i ≤ length gs → IsMissing email_key (email_text m) gs i → (h : EmailGroup)
-      → h.old_email ≡ m.old_email → IsStrictlySortedBy text_cmp (map name_key h.names) → rows h ≡ m ∷ []
-      → IsPut m gs i (insert gs i h)
+  pub put_missing : i ≤ length gs → IsMissing folded_email (email_text m) gs i → (h : EmailGroup)
+      → h.old_email ≡ m.old_email → IsStrictlySortedBy text_cmp (map folded_name h.names) → group_entries h ≡ m ∷ []
+      → IsPutInto m gs i (insert gs i h)
   put_missing le missing h same up is =
       let made : AreGroups (insert gs i h) = record {
-        ascending = missing_inserted email_key (email_text m) gs i h (ap folded same) are.ascending le missing;
+        ascending = missing_inserted folded_email (email_text m) gs i h (ap folded same) are.ascending le missing;
         each = all_insert IsGroup gs i h are.each (record { ascending = up; says = λ none. cc (is, none) });
       } in
-      let compare = λ (g : EmailGroup). text_cmp (email_key g) (email_text m) in
+      let compare = λ (g : EmailGroup). text_cmp (folded_email g) (email_text m) in
       let within : i < length (insert gs i h) = omega (arith, length-insert gs i h le) in
       record {
         groups = made;
@@ -166,15 +166,15 @@ module _ (m : Mapping) {gs : List EmailGroup} (are : AreGroups gs) (i : ℕ) whe
             ∙ ap (λ o. Some o) (tied_itself nat_list_cmp_total (email_text m));
       }
 
-  module _ (found : IsFound email_key (email_text m) gs i) (g : EmailGroup) (read : slice_get gs i ≡ Some g) where
+  module _ (found : IsFound folded_email (email_text m) gs i) (g : EmailGroup) (read : slice_get gs i ≡ Some g) where
     within : i < length gs
     within = slice_get_within gs i g read
 
     here : (d : EmailGroup) → get_or gs i d ≡ g
     here d = get_or_from_slice_get gs i g d read
 
-    same_email : email_key g ≡ email_text m
-    same_email = found_key email_key (email_text m) gs i found g (sym (here g))
+    same_email : folded_email g ≡ email_text m
+    same_email = found_key folded_email (email_text m) gs i found g (sym (here g))
 
     -- the entry, spelled as the email is
     abbrev spelt : Mapping
@@ -189,16 +189,16 @@ module _ (m : Mapping) {gs : List EmailGroup} (are : AreGroups gs) (i : ℕ) whe
         subst (λ o. Alike (listing gs ++ m ∷ []) (listing gs ++ record m { old_email = unwrap_or o [] } ∷ [])) there
         (alike_respelled (listing gs) (m ∷ []) (m ∷ []) (λ k. refl))
 
-    pub names_ascend : IsStrictlySortedBy text_cmp (map name_key g.names)
+    pub names_ascend : IsStrictlySortedBy text_cmp (map folded_name g.names)
     names_ascend = (subst IsGroup (here g) (All-from_recursion IsGroup gs are.each i g within)).ascending
 
-    put_there : (h : EmailGroup) → h.old_email ≡ g.old_email → IsStrictlySortedBy text_cmp (map name_key h.names)
-        → (front mid back : List Mapping) (v : Mapping) → rows g ≡ front ++ (mid ++ back) → rows h ≡ front ++ v ∷ back
-        → key spelt ≡ key v → v.old_email ≡ g.old_email → Alike (mid ++ spelt ∷ []) (v ∷ []) → IsPut m gs i (set gs i h)
+    put_there : (h : EmailGroup) → h.old_email ≡ g.old_email → IsStrictlySortedBy text_cmp (map folded_name h.names)
+        → (front mid back : List Mapping) (v : Mapping) → group_entries g ≡ front ++ (mid ++ back) → group_entries h ≡ front ++ v ∷ back
+        → key spelt ≡ key v → v.old_email ≡ g.old_email → Alike (mid ++ spelt ∷ []) (v ∷ []) → IsPutInto m gs i (set gs i h)
     put_there h email up front mid back v old new same email_is alike =
-        let emails : map email_key (set gs i h) ≡ map email_key gs =
-        map-set_same email_key gs i h g (ap folded email ∙ sym (ap email_key (here g))) in
-        let compare = λ (x : EmailGroup). text_cmp (email_key x) (email_text m) in
+        let emails : map folded_email (set gs i h) ≡ map folded_email gs =
+        map-set_same folded_email gs i h g (ap folded email ∙ sym (ap folded_email (here g))) in
+        let compare = λ (x : EmailGroup). text_cmp (folded_email x) (email_text m) in
         let made : AreGroups (set gs i h) = record {
           ascending = rw emails are.ascending;
           each = all_set IsGroup gs i h are.each
@@ -212,45 +212,45 @@ module _ (m : Mapping) {gs : List EmailGroup} (are : AreGroups gs) (i : ℕ) whe
               (rw (← whole, ← parts) at (put_in_groups (take i gs) (drop (i + 1) gs) (Some g) h front mid back spelt v
               (subst AreGroups parts made) old new same (sym email_is) alike));
           found = rw (map-set_same compare gs i h g
-              (ap (λ t. text_cmp t (email_text m)) (ap folded email ∙ sym (ap email_key (here g))))) found;
+              (ap (λ t. text_cmp t (email_text m)) (ap folded email ∙ sym (ap folded_email (here g))))) found;
         }
 
     pub fields_put : is_accepted m ≡ true → m.old_name ≡ None
-        → IsPut m gs i (set gs i (record g { own = given_or (new_fields m) g.own }))
+        → IsPutInto m gs i (set gs i (record g { unnamed = given_or (new_fields m) g.unnamed }))
     fields_put good plain =
-        let h : EmailGroup = record g { own = given_or (new_fields m) g.own } in
-        let v = mapping_with h.own None g.old_email in
-        put_there h refl names_ascend [] (own_rows g) (map (name_row g.old_email) g.names) v refl
+        let h : EmailGroup = record g { unnamed = given_or (new_fields m) g.unnamed } in
+        let v = mapping_with h.unnamed None g.old_email in
+        put_there h refl names_ascend [] (unnamed_entries g) (map (name_entry g.old_email) g.names) v refl
         (grind (arith, common_steps)) (grind arith) refl (own_once g spelt plain refl good)
 
     module _ (old_name : Text) (is : m.old_name ≡ Some old_name) (some : IsSome m.new_email) (j : ℕ) where
       abbrev row : NameGroup → Mapping
-      row = name_row g.old_email
+      row = name_entry g.old_email
 
-      pub name_inserted : j ≤ length g.names → IsMissing name_key (folded old_name) g.names j
-          → IsPut m gs i (set gs i (record g { names = insert g.names j (said old_name m) }))
+      pub name_inserted : j ≤ length g.names → IsMissing folded_name (folded old_name) g.names j
+          → IsPutInto m gs i (set gs i (record g { names = insert g.names j (said old_name m) }))
       name_inserted le missing =
           let n = said old_name m in
-          let front = own_rows g ++ map row (take j g.names) in
+          let front = unnamed_entries g ++ map row (take j g.names) in
           put_there (record g { names = insert g.names j n }) refl
-          (missing_inserted name_key (folded old_name) g.names j n refl names_ascend le missing)
-          front [] (map row (drop j g.names)) spelt (rw append_assoc (ap (λ l. own_rows g ++ l)
+          (missing_inserted folded_name (folded old_name) g.names j n refl names_ascend le missing)
+          front [] (map row (drop j g.names)) spelt (rw append_assoc (ap (λ l. unnamed_entries g ++ l)
           (ap (map row) (sym (take-append-drop j g.names)) ∙ map-append row (take j g.names) (drop j g.names))))
           (rw (append_assoc, map-append, said_row m old_name is some g.old_email) refl) refl refl
           (alike_itself (spelt ∷ []))
 
-      pub name_replaced : IsFound name_key (folded old_name) g.names j → (k : NameGroup) → slice_get g.names j ≡ Some k
-          → IsPut m gs i (set gs i (record g { names = set g.names j (said k.old_name m) }))
+      pub name_replaced : IsFound folded_name (folded old_name) g.names j → (k : NameGroup) → slice_get g.names j ≡ Some k
+          → IsPutInto m gs i (set gs i (record g { names = set g.names j (said k.old_name m) }))
       name_replaced found k at =
           let n : NameGroup = said k.old_name m in
-          let front = own_rows g ++ map row (take j g.names) in
+          let front = unnamed_entries g ++ map row (take j g.names) in
           let here : get_or g.names j k ≡ k = get_or_from_slice_get g.names j k k at in
           let within = slice_get_within g.names j k at in
           let whole = whole_parts g.names j k within (sym here) in
           let parts = set_parts g.names j n within in
-          let same_name = found_key name_key (folded old_name) g.names j found k (sym here) in
+          let same_name = found_key folded_name (folded old_name) g.names j found k (sym here) in
           put_there (record g { names = set g.names j n }) refl
-          (rw (map-set_same name_key g.names j n k (sym (ap name_key here))) names_ascend)
+          (rw (map-set_same folded_name g.names j n k (sym (ap folded_name here))) names_ascend)
           front (row k ∷ []) (map row (drop (j + 1) g.names)) (row n)
           (grind (arith, append_assoc, map-append, whole)) (grind (arith, append_assoc, map-append, parts))
           (grind (arith, common_steps)) refl (name_combined g.old_email old_name k m is some same_name)

@@ -16,40 +16,40 @@ pub record NameGroup : Type 0 where
 -- an old email as it is stored, the new fields for all other names, and the old names of the email
 pub record EmailGroup : Type 0 where
   pub old_email : Text
-  pub own : Fields
+  pub unnamed : Fields
   pub names : List NameGroup
 
-abbrev pub email_key : EmailGroup → Text
-email_key g = folded g.old_email
+abbrev pub folded_email : EmailGroup → Text
+folded_email g = folded g.old_email
 
-abbrev pub name_key : NameGroup → Text
-name_key n = folded n.old_name
+abbrev pub folded_name : NameGroup → Text
+folded_name n = folded n.old_name
 
 abbrev pub name_fields : NameGroup → Fields
 name_fields n = record { name = n.new_name; email = Some n.new_email }
 
-abbrev pub name_row : Text → NameGroup → Mapping
-name_row email n = mapping_with (name_fields n) (Some n.old_name) email
+abbrev pub name_entry : Text → NameGroup → Mapping
+name_entry email n = mapping_with (name_fields n) (Some n.old_name) email
 
 -- the entry of an email for all other names, if it has a field for them
-abbrev pub own_rows : EmailGroup → List Mapping
-own_rows g = if is_some g.own.name || is_some g.own.email then mapping_with g.own None g.old_email ∷ [] else []
+abbrev pub unnamed_entries : EmailGroup → List Mapping
+unnamed_entries g = if is_some g.unnamed.name || is_some g.unnamed.email then mapping_with g.unnamed None g.old_email ∷ [] else []
 
 -- all entries for an email
-abbrev pub rows : EmailGroup → List Mapping
-rows g = own_rows g ++ map (name_row g.old_email) g.names
+abbrev pub group_entries : EmailGroup → List Mapping
+group_entries g = unnamed_entries g ++ map (name_entry g.old_email) g.names
 
 abbrev pub listing : List EmailGroup → List Mapping
-listing gs = flat_map rows gs
+listing gs = flat_map group_entries gs
 
 -- an email with at least one entry, its names strictly ascending
 pub record IsGroup (g : EmailGroup) : Type 0 where
-  pub ascending : IsStrictlySortedBy text_cmp (map name_key g.names)
-  pub says : rows g ≢ []
+  pub ascending : IsStrictlySortedBy text_cmp (map folded_name g.names)
+  pub says : group_entries g ≢ []
 
 -- such emails, strictly ascending
 pub record AreGroups (gs : List EmailGroup) : Type 0 where
-  pub ascending : IsStrictlySortedBy text_cmp (map email_key gs)
+  pub ascending : IsStrictlySortedBy text_cmp (map folded_email gs)
   pub each : AllByRecursion IsGroup gs
 
 -- what tables hold: the bytes of their texts, and the emails

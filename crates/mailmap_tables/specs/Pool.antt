@@ -7,7 +7,7 @@ use Rattle.mailmap_entries.specs.Folding.{Text}
 use Rattle.mailmap_entries.specs.Prefixes.{key_prefix}
 use Rattle.mailmap_entries.specs.Semantics.{Fields}
 use Rattle.mailmap_entries.specs.Entries.{Mapping}
-use Rattle.mailmap_tables.specs.Groups.{Contents, EmailGroup, NameGroup, email_key, listing, name_row, name_total}
+use Rattle.mailmap_tables.specs.Groups.{Contents, EmailGroup, NameGroup, folded_email, listing, name_entry, name_total}
 use Rattle.mailmap_tables.specs.RowTexts.{old_span, name_span, email_span}
 use Rattle.mailmap_tables.specs.declared.texts.TheConstants.{NO_TEXT}
 use Rattle.mailmap_tables.specs.declared.texts.Source.{Source}
@@ -43,7 +43,7 @@ name_group pool t = record {
 abbrev pub group_of : Text → RowTexts → List RowTexts → EmailGroup
 group_of pool t names = record {
   old_email = spelled pool (old_span t);
-  own = fields_of pool t;
+  unnamed = fields_of pool t;
   names = map (name_group pool) names;
 }
 
@@ -82,8 +82,11 @@ RowInPool pool r = RowsInPool pool r.texts r.names
 
 -- the key prefix of an email
 abbrev pub prefix_of : EmailGroup → ℕ
-prefix_of g = key_prefix 16 (email_key g)
+prefix_of g = key_prefix 16 (folded_email g)
 
+-- What always holds of tables. The order of the emails isn't in it: `insert_email` and others edit the row that their
+-- caller names, and only the caller knows that this keeps the order. So few names that they and the emails can be added
+-- up.
 pub record AreTables (pool : Text) (rows : List Row) (prefixes : List ℕ) (name_count : ℕ) : Type 0 where
   pub lie : AllByRecursion (RowInPool pool) rows
   pub prefix_each : prefixes ≡ map prefix_of (map (row_group pool) rows)
@@ -129,4 +132,4 @@ with_email_at c index g = record c { groups = slice_set c.groups index g }
 
 -- the given names of one email, followed by all entries of the emails from an index on
 abbrev pub left_to_list : Contents → Text → List RowTexts → ℕ → List Mapping
-left_to_list t email names index = map (name_row email) (map (name_group t.pool) names) ++ listing (drop index t.groups)
+left_to_list t email names index = map (name_entry email) (map (name_group t.pool) names) ++ listing (drop index t.groups)

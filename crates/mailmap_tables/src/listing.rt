@@ -4,7 +4,7 @@ ghost use Rattle.std.specs.Iterator.{YieldsFirstBy, item_count};
 ghost use Rattle.std.specs.List.{AllByRecursion};
 ghost use Rattle.std.specs.Option.{option_to_list};
 ghost use Rattle.mailmap_entries.specs.Entries.{mapping_of};
-ghost use Rattle.mailmap_tables.specs.Groups.{listing, name_row, own_rows};
+ghost use Rattle.mailmap_tables.specs.Groups.{listing, name_entry, unnamed_entries};
 ghost use Rattle.mailmap_tables.specs.Pool.{NameInPool, TextsInPool, group_of, left_to_list, name_group, spelled};
 ghost use Rattle.mailmap_tables.specs.RowTexts.{old_span};
 
@@ -80,7 +80,7 @@ impl<'a> Iterator for Iter<'a> {
 fn own_entry<'a>(tables: &View<'a>, old_email: &'a [u8], texts: RowTexts) -> Option<Entry<'a>>
     requires in_pool { TextsInPool (length tables.now.pool) texts }
     requires old_email { old_email.now ≡ spelled tables.now.pool (old_span texts) }
-    ensures { option_to_list (option_map mapping_of result) ≡ own_rows (group_of tables.now.pool texts []) }
+    ensures { option_to_list (option_map mapping_of result) ≡ unnamed_entries (group_of tables.now.pool texts []) }
 {
     let (new_name, new_email) = tables.fields(texts);
     let new_name = tables.optional_text(new_name);
@@ -94,7 +94,7 @@ fn own_entry<'a>(tables: &View<'a>, old_email: &'a [u8], texts: RowTexts) -> Opt
 // The entry of one of an email's names.
 fn name_entry<'a>(tables: &View<'a>, old_email: &'a [u8], row: &NameRow) -> Entry<'a>
     requires { NameInPool (length tables.now.pool) row.now }
-    ensures { mapping_of result ≡ name_row old_email.now (name_group tables.now.pool row.now) }
+    ensures { mapping_of result ≡ name_entry old_email.now (name_group tables.now.pool row.now) }
 {
     let old_name = tables.text(row.old());
     let (new_name, new_email) = tables.fields(*row);

@@ -157,7 +157,7 @@ fn built(alloc: Global, entries: &[Entry<'_>]) -> Result<Tables, AllocError>
         put_group(&mut tables, earliest(group).entry.old_email(), group)?;
         left = rest;
     }
-    Ok(tables.built())
+    Ok(tables.as_newly_built())
 }
 
 // The number of bytes in the texts of entries, at most `usize::MAX`.

@@ -6,8 +6,8 @@ ghost use Rattle.mailmap_entries.specs.Entries.{mapping_of};
 ghost use Rattle.mailmap_entries.specs.Folding.{Text, folded};
 ghost use Rattle.mailmap_entries.specs.Semantics.{is_accepted, new_fields};
 ghost use Rattle.mailmap_tables.specs.KeySearch.{IsFound, IsMissing};
-ghost use Rattle.mailmap_tables.specs.Groups.{AreGroups, email_key};
-ghost use Rattle.mailmap_tables.specs.Put.{IsPut, with_email};
+ghost use Rattle.mailmap_tables.specs.Groups.{AreGroups, folded_email};
+ghost use Rattle.mailmap_tables.specs.Put.{IsPutInto, with_email};
 ghost use Rattle.mailmap_tables.specs.Pool.{IsRow, IsWithin, LiesIn, spelled, text_of};
 
 use crate::rows::{EmailRow, NameRow};
@@ -28,7 +28,7 @@ impl Tables {
     pub(crate) fn put(&mut self, email: &[u8], entry: &Entry<'_>) -> Result<usize, AllocError>
         requires groups { AreGroups self.old.groups }
         requires accepted { is_accepted (mapping_of entry.now) ≡ true }
-        ensures ok { IfOk result (λ index. IsPut (with_email email.now (mapping_of entry.now)) self.old.groups index
+        ensures ok { IfOk result (λ index. IsPutInto (with_email email.now (mapping_of entry.now)) self.old.groups index
             self.new.groups) }
         ensures err { OnErr result (self.new.groups ≡ self.old.groups) }
     {
@@ -51,7 +51,8 @@ impl Tables {
         }
     }
 
-    /// Does the same if the email is known to be at this index. Only clauses use `email`.
+    /// Does the same if the email is known to be at this index. `email` is its spelling there; clauses
+    /// need it.
     #[tactic(auto, using(crate::proofs::KeySearch::reads))]
     pub(crate) fn put_at(
         &mut self,
@@ -60,9 +61,9 @@ impl Tables {
         entry: &Entry<'_>,
     ) -> Result<(), AllocError>
         requires groups { AreGroups self.old.groups }
-        requires found { IsFound email_key (folded email.now) self.old.groups index }
+        requires found { IsFound folded_email (folded email.now) self.old.groups index }
         requires accepted { is_accepted (mapping_of entry.now) ≡ true }
-        ensures ok { OnOk result (IsPut (with_email email.now (mapping_of entry.now)) self.old.groups index
+        ensures ok { OnOk result (IsPutInto (with_email email.now (mapping_of entry.now)) self.old.groups index
             self.new.groups) }
         ensures err { OnErr result (self.new.groups ≡ self.old.groups) }
     {
@@ -107,9 +108,9 @@ impl Tables {
     ) -> Result<(), AllocError>
         requires groups { AreGroups self.old.groups }
         requires within { index ≤ length self.old.groups }
-        requires missing { IsMissing email_key (folded email.text.now) self.old.groups index }
+        requires missing { IsMissing folded_email (folded email.text.now) self.old.groups index }
         requires accepted { is_accepted (mapping_of entry.now) ≡ true }
-        ensures ok { OnOk result (IsPut (with_email email.entry.text.now (mapping_of entry.now)) self.old.groups index
+        ensures ok { OnOk result (IsPutInto (with_email email.entry.text.now (mapping_of entry.now)) self.old.groups index
             self.new.groups) }
         ensures err { OnErr result (self.new.groups ≡ self.old.groups) }
     {

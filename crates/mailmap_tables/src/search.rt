@@ -4,7 +4,7 @@ ghost use Rattle.std.specs.List.{AllByRecursion};
 ghost use Rattle.std.specs.List.Sorted.{IsPartitionPoint, IsSearchInRange, IsStrictlySortedBy};
 ghost use Rattle.mailmap_entries.specs.Folding.{folded, text_cmp};
 ghost use Rattle.mailmap_entries.specs.Search.{IsPartitioned, digits};
-ghost use Rattle.mailmap_tables.specs.Groups.{email_key, name_key};
+ghost use Rattle.mailmap_tables.specs.Groups.{folded_email, folded_name};
 ghost use Rattle.mailmap_tables.specs.KeySearch.{IsFound, IsMissing, compared};
 ghost use Rattle.mailmap_tables.specs.Pool.{LiesIn, NameInPool, name_group};
 ghost use Rattle.mailmap_tables.specs.RowTexts.{old_span};
@@ -25,7 +25,7 @@ pub(crate) struct EmailProbe<'t, 'a, 'e> {
 }
 
 impl Probe for EmailProbe<'_, '_, '_> {
-    ghost answers = { λ p. compared email_key (folded p.email.text.now) p.tables.now.groups };
+    ghost answers = { λ p. compared folded_email (folded p.email.text.now) p.tables.now.groups };
 
     ghost asked = { λ p. p.steps };
 
@@ -47,7 +47,7 @@ pub(crate) struct NameProbe<'t, 'a, 'n> {
 }
 
 impl Probe for NameProbe<'_, '_, '_> {
-    ghost answers = { λ p. compared name_key (folded p.name.now) (map (name_group p.tables.now.pool) p.names.now) };
+    ghost answers = { λ p. compared folded_name (folded p.name.now) (map (name_group p.tables.now.pool) p.names.now) };
 
     ghost asked = { λ p. p.steps };
 
@@ -86,11 +86,11 @@ pub fn find_email_counted(
     email: &[u8],
     steps: &mut Steps,
 ) -> Result<usize, usize>
-    requires ascending { IsStrictlySortedBy text_cmp (map email_key tables.now.groups) }
+    requires ascending { IsStrictlySortedBy text_cmp (map folded_email tables.now.groups) }
     requires countable { steps.old ≤ usize.MAX - 64 }
     ensures within { IsSearchInRange result (length tables.now.groups) }
-    ensures found { IfOk result (IsFound email_key (folded email.now) tables.now.groups) }
-    ensures missing { IfErr result (IsMissing email_key (folded email.now) tables.now.groups) }
+    ensures found { IfOk result (IsFound folded_email (folded email.now) tables.now.groups) }
+    ensures missing { IfErr result (IsMissing folded_email (folded email.now) tables.now.groups) }
     ensures at_most { steps.new ≤ steps.old + digits (length tables.now.groups) }
     ensures few { steps.new ≤ steps.old + 64 }
     ensures at_least { steps.old + min 1 (length tables.now.groups) ≤ steps.new }
@@ -115,11 +115,11 @@ pub fn find_name_counted(
 ) -> Result<usize, usize>
     requires in_pool { AllByRecursion (NameInPool (length tables.now.pool)) names.now }
     requires ascending { IsStrictlySortedBy text_cmp
-        (map name_key (map (name_group tables.now.pool) names.now)) }
+        (map folded_name (map (name_group tables.now.pool) names.now)) }
     requires countable { steps.old ≤ usize.MAX - 64 }
     ensures within { IsSearchInRange result (length names.now) }
-    ensures found { IfOk result (IsFound name_key (folded name.now) (map (name_group tables.now.pool) names.now)) }
-    ensures missing { IfErr result (IsMissing name_key (folded name.now) (map (name_group tables.now.pool) names.now)) }
+    ensures found { IfOk result (IsFound folded_name (folded name.now) (map (name_group tables.now.pool) names.now)) }
+    ensures missing { IfErr result (IsMissing folded_name (folded name.now) (map (name_group tables.now.pool) names.now)) }
     ensures at_most { steps.new ≤ steps.old + digits (length names.now) }
     ensures at_least { steps.old + min 1 (length names.now) ≤ steps.new }
 {

@@ -12,7 +12,7 @@ use crate::view::View;
 use std::alloc::{AllocError, Global};
 use std::marker::Model;
 
-// Before the tables are rebuilt, a pool may always grow by twice this.
+// Before the tables are rebuilt, a pool may always grow by twice this: 2 KiB.
 const SPARE_LEN: usize = 1024;
 
 // The most names in tables, more than memory can hold.
@@ -102,7 +102,7 @@ impl Tables {
     }
 
     /// The same tables, with the length of their pool noted as that of newly built ones.
-    pub(crate) fn built(mut self) -> Tables
+    pub(crate) fn as_newly_built(mut self) -> Tables
         ensures { result ≡ self }
     {
         self.built_len = self.pool.len();
@@ -163,7 +163,7 @@ impl Tables {
         requires same { ForSome (slice_get self.old.groups email)
             (λ g. spelled self.old.pool (old_span texts) ≡ g.old_email) }
         ensures { ForSome (slice_get self.old.groups email)
-            (λ g. self.new ≡ with_email_at self.old email (record g { own = fields_of self.old.pool texts })) }
+            (λ g. self.new ≡ with_email_at self.old email (record g { unnamed = fields_of self.old.pool texts })) }
     {
         self.emails[email].texts = texts;
     }
@@ -213,6 +213,7 @@ impl Tables {
         ensures err { OnErr result (self.new ≡ self.old) }
     {
         let count = with_more(self.name_count, row.names.len())?;
+        // so that the second of two insertions can't fail
         self.emails.reserve(1)?;
         self.prefixes.insert(index, prefix)?;
         self.emails.insert(index, row)?;

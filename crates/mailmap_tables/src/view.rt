@@ -119,6 +119,7 @@ impl<'a> View<'a> {
     }
 }
 
+// An element, with the one equation about it that the proofs of all callers use.
 fn at<T>(rows: &[T], index: usize) -> &T
     requires { index < length rows.now }
     ensures { result.now ≡ get_or rows.now index result.now }

@@ -14,7 +14,7 @@ use Rattle.mailmap_snapshot.specs.Entries.{Mapping}
 use Rattle.mailmap_snapshot.specs.Folding.{Text}
 use Rattle.mailmap_snapshot.specs.Lines.{contact_in, mappings_of}
 use Rattle.mailmap_snapshot.specs.Semantics.{IsNormal, fields_for, no_fields}
-use Rattle.mailmap_entries.proofs.Alike.{same_scan}
+use Rattle.mailmap_entries.proofs.Alike.{alike_answer}
 use Rattle.mailmap_entries.proofs.Normal.{alike_normal}
 use Rattle.mailmap_entries.proofs.Parts.{all_map, all_mapped, all_weaker}
 use Rattle.command_line.specs.Leaving.{LeavesText}
@@ -121,7 +121,7 @@ module _ (with_email : Bool) (h : List Mapping) where
 same_answer : (h n : List Mapping) → IsNormal h n → (c : Contact) → answer_to n c ≡ answer_to h c
 same_answer h n normal c =
     let fields : fields_for n c.name c.email ≡ fields_for h c.name c.email =
-    ap (λ o. unwrap_or o no_fields) (sym (same_scan h n c.name c.email (alike_normal h n normal))) in
+    ap (λ o. unwrap_or o no_fields) (sym (alike_answer h n c.name c.email (alike_normal h n normal))) in
     λ i. record { name = unwrap_or (fields i).name c.name; email = unwrap_or (fields i).email c.email }
 
 -- the listing that is made of counted contacts with a snapshot of the mailmaps is their shortlog

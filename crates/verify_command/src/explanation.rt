@@ -2,16 +2,13 @@
 ghost use Rattle.std.specs.Prelude.{◌≡◌, ◌++◌, IfErr, IfOk, OnErr, OnOk, map};
 ghost use Rattle.mailmap_redundancy.specs.Origins.{origins};
 ghost use Rattle.mailmap_entries.specs.Semantics.{answer_of};
-ghost use Rattle.mailmap_findings.specs.Positions.{located_lines, located, whole_lines};
+ghost use Rattle.mailmap_findings.specs.Positions.{located_lines, located};
 ghost use Rattle.mailmap_redundancy.specs.Redundancy.{AreEffective, entries};
 ghost use Rattle.verify_command.specs.Explained.{explained_line, mapped_text, each_line};
 ghost use Rattle.std.specs.Io.KnownBytes.{IsAtEnd};
 ghost use Rattle.command_line.specs.Files.{texts};
 ghost use Rattle.verify_command.specs.Task.{FailsFor, IsOfMailmap, LeavesExplained, wanted_of};
-ghost use Rattle.std.proofs.Common.{◌∙◌, ap, flat_map, sym};
-ghost use Rattle.std.proofs.lemmas.Grind.{flat_map-append};
-ghost use Rattle.command_line.proofs.Reading.{lines_of-append};
-ghost use Rattle.mailmap_findings.proofs.WholeLines.{lines-whole};
+ghost use Rattle.mailmap_findings.proofs.WholeLines.{whole_in_order};
 
 use crate::asked::{Mode, Request};
 use crate::failure::TaskFailure;
@@ -217,8 +214,5 @@ impl LineAnswers for ExplainedLines<'_, '_, '_> {
             .push_explained_line(text, self.kept.as_slice())
     }
 
-    ghost in_order = { λ s whole more ends. ap (flat_map (explained_line s.explainer))
-        (sym (lines-whole (whole ++ more)) ∙ lines_of-append whole more ends
-        ∙ (λ i. lines-whole whole i ++ lines-whole more i))
-        ∙ flat_map-append (explained_line s.explainer) (whole_lines whole) (whole_lines more) };
+    ghost in_order = { λ s. whole_in_order (explained_line s.explainer) };
 }

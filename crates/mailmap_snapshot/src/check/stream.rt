@@ -2,9 +2,10 @@
 ghost use Rattle.std.specs.Prelude.{◌≡◌, ◌++◌, ◌<◌, ◌≤◌, ◌⊎◌, [], List, IfOk, IsTrue, OnErr, OnOk, length, map, take};
 ghost use Rattle.mailmap_entries.specs.Entries.{Mapping};
 ghost use Rattle.mailmap_entries.specs.Folding.{Text};
+ghost use Rattle.mailmap_grammar.specs.LineParts.{AnswersFront};
 ghost use Rattle.mailmap_grammar.specs.Lines.{HoldsNo};
 ghost use Rattle.mailmap_snapshot.specs.Contacts.{answer, answers, answers_by};
-ghost use Rattle.mailmap_snapshot.specs.Streams.{AreCachedAnswers, AnswersFront, HasRead};
+ghost use Rattle.mailmap_snapshot.specs.Streams.{AreCachedAnswers, HasTaken};
 ghost use Rattle.mailmap_snapshot.specs.declared.check.stream.Stop.TheVariants.{Enough};
 
 use crate::check::{push_answers, snapshot_of};
@@ -83,12 +84,12 @@ impl ContactStream {
     pub fn push(&mut self, part: &[u8], text: &mut Vec<u8>) -> Result<usize, AllocError>
         ensures takes { IfOk result (λ taken. (taken ≤ length part.now) × (0 < length part.now → 0 < taken)) }
         ensures answers { IfOk result (λ taken. (made : Text) × (text.new.items ≡ text.old.items ++ made)
-            × AnswersFront self.old.mappings (self.old.kept ++ take taken part.now) made self.new.kept) }
+            × AnswersFront (answers self.old.mappings) (self.old.kept ++ take taken part.now) made self.new.kept) }
         ensures keeps { OnOk result ((HoldsNo 10 self.old.kept → HoldsNo 10 self.new.kept)
             × (self.new.mappings ≡ self.old.mappings)) }
         ensures err { OnErr result ((self.new ≡ self.old) × (text.new.items ≡ text.old.items)) }
     {
-        let (taken, _) = push_lines(&mut self.kept, part, &self.snapshot, &mut self.cache, text)?;
+        let (taken, _) = take_lines(&mut self.kept, part, &self.snapshot, &mut self.cache, text)?;
         Ok(taken)
     }
 
@@ -125,24 +126,25 @@ impl ContactStream {
 
 // Does what `push` does. Also returns why it took no more.
 #[tactic(auto, using(crate::proofs::Streams::next))]
-fn push_lines(
+fn take_lines(
     kept: &mut Vec<u8>,
     part: &[u8],
     snapshot: &Snapshot,
     cache: &mut AnswerCache,
     text: &mut Vec<u8>,
 ) -> Result<(usize, Stop), AllocError>
-    requires { AreCachedAnswers snapshot.now cache.old }
-    ensures ok { IfOk result (λ taken. HasRead snapshot.now kept.old.items part.now text.old.items taken.0
+    requires held { HoldsNo 10 kept.old.items }
+    requires cached { AreCachedAnswers snapshot.now cache.old }
+    ensures ok { IfOk result (λ taken. HasTaken snapshot.now kept.old.items part.now text.old.items taken.0
         kept.new.items text.new.items) }
     ensures enough { IfOk result (λ taken. taken.1 ≡ Enough
         → (taken.0 ≡ length part.now) ⊎ (65536 ≤ length text.new.items)) }
     ensures err { OnErr result ((kept.new.items ≡ kept.old.items) × (text.new.items ≡ text.old.items)) }
     ensures cache { AreCachedAnswers snapshot.now cache.new }
 {
-    let mut taken = push_line(kept, part, snapshot, cache, text)?;
+    let mut taken = take_line(kept, part, snapshot, cache, text)?;
     while taken < part.len() && text.len() < ENOUGH {
-        match push_line(kept, &part[taken..], snapshot, cache, text) {
+        match take_line(kept, &part[taken..], snapshot, cache, text) {
             Ok(count) => taken += count,
             Err(_) => return Ok((taken, Stop::OutOfMemory)),
         }
@@ -151,16 +153,17 @@ fn push_lines(
 }
 
 // Takes the first line of a part with its line feed, and answers it. Without a line feed, keeps the whole part.
-#[tactic(auto, using(crate::proofs::Streams::kept_part))]
-fn push_line(
+#[tactic(auto, using(crate::proofs::Streams::part_kept))]
+fn take_line(
     kept: &mut Vec<u8>,
     part: &[u8],
     snapshot: &Snapshot,
     cache: &mut AnswerCache,
     text: &mut Vec<u8>,
 ) -> Result<usize, AllocError>
-    requires { AreCachedAnswers snapshot.now cache.old }
-    ensures ok { IfOk result (λ taken. HasRead snapshot.now kept.old.items part.now text.old.items taken
+    requires held { HoldsNo 10 kept.old.items }
+    requires cached { AreCachedAnswers snapshot.now cache.old }
+    ensures ok { IfOk result (λ taken. HasTaken snapshot.now kept.old.items part.now text.old.items taken
         kept.new.items text.new.items) }
     ensures err { OnErr result ((kept.new.items ≡ kept.old.items) × (text.new.items ≡ text.old.items)) }
     ensures cache { AreCachedAnswers snapshot.now cache.new }

@@ -114,7 +114,7 @@ impl Snapshot {
 
     /// Does what [`try_resolve_ref`](Snapshot::try_resolve_ref()) does, for a name and an email without a signature.
     #[inline(always)]
-    #[tactic(auto, using(mailmap_entries::proofs::Alike::same_scan, mailmap_entries::proofs::Normal::alike_normal))]
+    #[tactic(auto, using(mailmap_entries::proofs::Alike::alike_answer, mailmap_entries::proofs::Normal::alike_normal))]
     pub fn try_resolve_contact(&self, name: &[u8], email: &[u8]) -> Option<ResolvedSignature<'_>>
         ensures view { option_map resolved_fields result ≡ answer_of self.now name.now email.now }
 
@@ -133,7 +133,7 @@ impl Snapshot {
     /// comparisons as E and N have binary digits together. There is at least one for each of E and N that is not 0. If
     /// the email is not found, N is 0.
     #[inline(always)]
-    #[tactic(auto, using(mailmap_entries::proofs::Alike::same_scan, mailmap_entries::proofs::Normal::alike_normal, crate::proofs::Resolved::listed_emails))]
+    #[tactic(auto, using(mailmap_entries::proofs::Alike::alike_answer, mailmap_entries::proofs::Normal::alike_normal, crate::proofs::Resolved::listed_emails))]
     pub fn try_resolve_ref_counted(
         &self,
         signature: SignatureRef<'_>,

@@ -3,8 +3,9 @@ use Rattle.std.proofs.Math.Seq.{take-length}
 use Rattle.std.proofs.lemmas.List.{take_rest}
 use Rattle.std.proofs.lemmas.Result.{IfErr-weaker}
 use Rattle.std.proofs.KnownBytes.{Appends-kept, Appends-nil, Appends-trans}
+use Rattle.mailmap_grammar.proofs.LineParts.{more_answered, nothing_answered, slices}
 use Rattle.command_line.specs.Failures.{Memory}
-use Rattle.command_line.proofs.AnsweredLines.{cut, more, nothing_answered, slices, stopped, stopped_before}
+use Rattle.command_line.proofs.AnsweredLines.{cut, stopped, stopped_before}
 use Rattle.command_line.proofs.answering.answer_part.Goals as goal
 
 pub loop-taken-init : goal.loop-taken-init
@@ -21,7 +22,7 @@ returns-in_err-taken-clause-err g c =
 pub loop-taken-preserved : goal.loop-taken-preserved
 loop-taken-preserved g c =
     let h = c.loop-taken.invariant in (
-      rw (← slices c.loop-taken.taken c.in_ok-taken.field-0 c.args.part.now) (more (g.A.LineAnswers.answers c.args.answerer.now) (g.met.A.LineAnswers.in_order c.args.answerer.now) h.0
+      rw (← slices c.loop-taken.taken c.in_ok-taken.field-0 c.args.part.now) (more_answered (g.A.LineAnswers.answers c.args.answerer.now) (g.met.A.LineAnswers.in_order c.args.answerer.now) h.0
           (λ made is. Appends-trans (g.W.Write.contents c.args.output.now) (g.W.Write.contents c.loop-taken.output) (g.W.Write.contents c.write_unflushed.new.writer) h.0.made made h.0.is_made
           (rw (c.as_slice.ensures.value ∙ is ∙ ap (λ t. t ++ made) c.clear.ensures.items) at c.in_ok-write_unflushed.ensures.ok))
           (rw h.1 at c.in_ok-taken.ensures.answers)),

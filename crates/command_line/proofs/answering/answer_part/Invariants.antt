@@ -1,7 +1,7 @@
 -- The lines that were taken are answered, and their answers are written.
 use Rattle.std.proofs.Common.{◌≡◌, ◌-◌, length, take}
 use Rattle.std.specs.Io.KnownBytes.{Appends}
-use Rattle.command_line.specs.Answering.{HasAnswered}
+use Rattle.mailmap_grammar.specs.LineParts.{HasAnswered}
 use Rattle.command_line.proofs.answering.answer_part.Given as goal
 
 abbrev pub invariant-loop-taken : goal.invariant-loop-taken

@@ -1,6 +1,6 @@
 -- The lines that were taken are answered.
 use Rattle.std.proofs.Common.{◌≡◌, ◌++◌, ◌-◌, ◌<◌, ◌≤◌, length, take}
-use Rattle.command_line.specs.Answering.{HasAnswered}
+use Rattle.mailmap_grammar.specs.LineParts.{HasAnswered}
 use Rattle.command_line.proofs.answering.push_lines.Given as goal
 
 abbrev pub invariant-loop-taken : goal.invariant-loop-taken

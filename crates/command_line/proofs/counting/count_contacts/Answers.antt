@@ -2,7 +2,8 @@ use Rattle.std.proofs.Common.{rules, ◌++◌, [], append-nil, inl, refl, sym, t
 use Rattle.std.proofs.KnownBytes.{Consumes-nil, Consumes-trans}
 use Rattle.bstr.specs.Text.{lines_of}
 use Rattle.bstr.proofs.lemmas.LineLemmas.{lines-nil}
-use Rattle.command_line.proofs.Reading.{all_given, lines_of-append}
+use Rattle.mailmap_grammar.proofs.LineParts.{lines_of-append}
+use Rattle.command_line.proofs.Reading.{all_given}
 use Rattle.command_line.proofs.counting.count_contacts.Goals as goal
 
 pub loop-init : goal.loop-init

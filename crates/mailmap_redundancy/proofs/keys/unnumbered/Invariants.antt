@@ -1,7 +1,7 @@
 use Rattle.std.proofs.Common.{◌≡◌, take, map}
 use Rattle.mailmap_redundancy.specs.Redundancy.{located_of}
-use Rattle.mailmap_redundancy.specs.Numbers.{mappings}
+use Rattle.mailmap_redundancy.specs.Numbers.{located_mappings}
 use Rattle.mailmap_redundancy.proofs.keys.unnumbered.Given as goal
 
 abbrev pub invariant-loop-located : goal.invariant-loop-located
-invariant-loop-located l = mappings l.rows.items ≡ map located_of (take l.located-index l.entries)
+invariant-loop-located l = located_mappings l.rows.items ≡ map located_of (take l.located-index l.entries)

@@ -1,9 +1,9 @@
-use Rattle.std.proofs.Common.{◌≡◌, ◌<◌, true, false, length, sym, ap, subst, ◌∙◌, arith, rules}
+use Rattle.std.proofs.Common.{◌≡◌, ◌<◌, ◌+◌, drop, true, false, length, sym, ap, subst, ◌∙◌, arith, rules}
 use Rattle.std.proofs.lemmas.List.{drop_all}
 use Rattle.mailmap_entries.specs.Semantics.{key}
 use Rattle.mailmap_redundancy.specs.Redundancy.{done}
-use Rattle.mailmap_redundancy.specs.Numbers.{IsNumbered, entry_of, is_redundant, located_entry_of, mappings, said, said_of}
-use Rattle.mailmap_redundancy.proofs.Rows.{going, staying}
+use Rattle.mailmap_redundancy.specs.Numbers.{IsNumbered, numbered_mapping, is_redundant, is_redundant_by, located_entry_of, located_mappings, said}
+use Rattle.mailmap_redundancy.proofs.Rows.{ends, going, staying}
 use Rattle.mailmap_redundancy.proofs.passes.drop_redundant_once.Goals as goal
 use Rattle.mailmap_redundancy.proofs.passes.drop_redundant_once.Goals.{then-not-is_redundant+in_ok-push, else-not-is_redundant}
 
@@ -14,10 +14,13 @@ loop-x-preserved c =
     let so = c.loop-x.invariant in
     let within : c.loop-x.x-index < length c.args.entries.now = omega arith in
     let n = subst (IsNumbered keys) (sym c.x-item.is) (c.requires.numbered c.loop-x.x-index x within) in
-    let kept = mappings c.loop-x.kept.items in
-    let tested : c.is_redundant.result ≡ is_redundant (said kept (key (entry_of x))) (located_entry_of x)
-    (said_of c.in-Some.later) = c.is_redundant.ensures
-    ∙ ap (λ s. is_redundant s (located_entry_of x) (said_of c.in-Some.later)) (c.summary.ensures keys kept n so.table) in
+    let kept = located_mappings c.loop-x.kept.items in
+    let heads = ends keys c.args.entries.now c.requires.numbered c.loop-x.x-index x within c.x-item.is n
+    c.loop-x.later_ones.items c.loop-x.table c.loop-x.kept.items so c.pop.new.self.items c.in-Some.later
+    c.in-Some.ensures.items in
+    let rest = said (located_mappings (drop (c.loop-x.x-index + 1) c.args.entries.now)) (key (numbered_mapping x)) in
+    let tested : c.is_redundant.result ≡ is_redundant (said kept (key (numbered_mapping x))) (located_entry_of x) rest =
+    c.is_redundant.ensures ∙ (λ i. is_redundant_by (c.summary.ensures keys kept n so.table i) (located_entry_of x) (heads.1 i)) in
     elim c.if-not-is_redundant.branch [
       | then-not-is_redundant+in_ok-push w ↦
           let works : c.is_redundant.result ≡ false = search rules in

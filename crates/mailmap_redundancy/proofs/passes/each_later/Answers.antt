@@ -1,7 +1,6 @@
-use Rattle.std.proofs.Common.{◌<◌, ◌-◌, [], ◌∷◌, ◌++◌, length, sym, subst, arith}
-use Rattle.std.proofs.lemmas.List.{map_push}
-use Rattle.mailmap_redundancy.specs.Numbers.{IsNumbered, said_of}
-use Rattle.mailmap_redundancy.proofs.Rows.{mappings_next}
+use Rattle.std.proofs.Common.{◌<◌, ◌-◌, [], ◌∷◌, ◌++◌, length, ap, sym, subst, arith, ◌∙◌}
+use Rattle.mailmap_redundancy.specs.Numbers.{IsNumbered, later_of, located_entry_of}
+use Rattle.mailmap_redundancy.proofs.Rows.{located_mappings_next}
 use Rattle.mailmap_redundancy.proofs.passes.each_later.Goals as goal
 
 pub loop-left-preserved : goal.loop-left-preserved
@@ -11,9 +10,9 @@ loop-left-preserved c =
     let table = c.loop-left.invariant.1 in
     let within : c.loop-left.left - 1 < length all = omega arith in
     let n = subst (IsNumbered c.args.keys.now) (sym c.index-entries-left.is) (c.requires.numbered _ x within) in
-    let next = mappings_next all _ c.loop-left.left x within c.index-entries-left.is (omega arith) in (
+    let next = located_mappings_next all _ c.loop-left.left x within c.index-entries-left.is (omega arith) in (
       omega arith,
       rw next (c.prepend.ensures _ _ c.requires.ascending n table),
-      rw (next, c.in_ok-push.ensures.items, map_push said_of c.loop-left.later_ones.items c.summary.result)
-          (λ k. c.loop-left.invariant.2 k ++ c.summary.ensures _ _ n table k ∷ []),
+      rw (next, c.in_ok-push.ensures.items) (λ k. c.loop-left.invariant.2 k
+          ++ (c.of.ensures ∙ ap (later_of (located_entry_of x)) (c.summary.ensures _ _ n table)) k ∷ []),
     )

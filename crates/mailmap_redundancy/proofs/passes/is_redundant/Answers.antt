@@ -1,12 +1,16 @@
 use Rattle.std.proofs.Common.{◌≡◌, Option, Some, None, is_some, refl, rules}
 use Rattle.std.specs.Borrow.{Bor}
-use Rattle.std.specs.Option.{option_copied}
-use Rattle.mailmap_entries.proofs.Parts.{is_some-option_map}
+use Rattle.std.specs.Option.{option_copied, option_map}
+use Rattle.mailmap_entries.specs.Folding.{Text, folded}
+use Rattle.mailmap_redundancy.proofs.Redundant.{has_referred}
 use Rattle.mailmap_redundancy.proofs.passes.is_redundant.Goals as goal
 
-some_copied : {X : Type 0} (o : Option (Bor X)) → is_some o ≡ is_some (option_copied o)
-some_copied None = refl
-some_copied (Some x) = refl
+is_named : (o : Option (Bor Text)) → is_some (option_map folded (option_copied o)) ≡ is_some o
+is_named None = refl
+is_named (Some x) = refl
 
-pub returns-then-is_some : goal.returns-then-is_some
-returns-then-is_some c = search (rules, some_copied, is_some-option_map)
+pub returns-then-keeps_new_fields : goal.returns-then-keeps_new_fields
+returns-then-keeps_new_fields c = search (rules, has_referred, is_named)
+
+pub returns-else-keeps_new_fields : goal.returns-else-keeps_new_fields
+returns-else-keeps_new_fields c = search (rules, has_referred, is_named)

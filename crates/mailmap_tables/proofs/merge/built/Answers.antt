@@ -43,4 +43,4 @@ returns c =
     let b = c.as_slice-left.result.now in
     let sorted : IsSorted xs (map indexed_mapping b) = rw c.as_slice-left.ensures.value c.in_ok-batch.ensures in
     let none : c.loop-left.left.now ≡ [] = nil_from_length _ (grind (arith, common_steps)) in
-    rw c.built.ensures (c.loop-left.invariant.groups, built_end c.requires sorted (rw none at c.loop-left.invariant))
+    rw c.as_newly_built.ensures (c.loop-left.invariant.groups, built_end c.requires sorted (rw none at c.loop-left.invariant))

@@ -9,9 +9,9 @@ returns c =
     let line = c.args.line.now in
     let cs = c.self.inside.contacts in
     let slots = c.self.inside.slots.items in
-    let i = bit_and c.hash_of.result 32767 in
+    let i = bit_and c.hash_of.result 16383 in
     let slot = c.index_mut-slot.result.now in
-    let within : i < length slots = omega (arith, and_le_r c.hash_of.result 32767, c.self.invariant.1) in
+    let within : i < length slots = omega (arith, and_le_r c.hash_of.result 16383, c.self.invariant.1) in
     let there : get_or slots i slot ≡ slot = search rules in
     let is : c.in-Some.number ≡ c.args.self.now.lines + 1 = c.in-Some.ensures.1
     ∙ ap (λ s. s.lines + 1) c.self.view_is in

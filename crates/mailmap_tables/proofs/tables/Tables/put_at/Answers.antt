@@ -7,7 +7,7 @@ use Rattle.std.proofs.lemmas.Result.{on_ok_weaker}
 use Rattle.mailmap_entries.specs.Entries.{mapping_of}
 use Rattle.mailmap_entries.specs.Semantics.{new_fields}
 use Rattle.mailmap_entries.proofs.Lookups.{IsPartitioned-from_ascending}
-use Rattle.mailmap_tables.specs.Groups.{NameGroup, name_key}
+use Rattle.mailmap_tables.specs.Groups.{NameGroup, folded_name}
 use Rattle.mailmap_tables.specs.Pool.{fields_of, group_of, name_group, spelled}
 use Rattle.mailmap_tables.specs.Put.{with_email}
 use Rattle.mailmap_tables.specs.RowTexts.{old_span}
@@ -26,7 +26,7 @@ returns-in_default-clause-ok c =
     let name = c.given_or.ensures.text a.pool in
     let email = c.given_or-in_default.ensures.text a.pool in
     let spans = c.fields-new_name.ensures in
-    let given : fields_of c.append_row.new.self.pool c.in_ok-row.row ≡ given_or (new_fields m) g.own =
+    let given : fields_of c.append_row.new.self.pool c.in_ok-row.row ≡ given_or (new_fields m) g.unnamed =
     cc (c.in_ok-row.ensures.row.fields_are, c.new_name.ensures, c.new_email.ensures, spans.new_name, spans.new_email) in
     rw (c.replace_texts.ensures g (rw c.append_row.ensures.grown.1 read), given, c.append_row.ensures.grown.1)
     (fields_put m c.requires.groups i c.requires.found g read c.requires.accepted (grind arith))
@@ -37,7 +37,7 @@ search_last_first-requires-clause-parted c =
     let g = group_of a.pool c.email.result.0 c.email.result.1.now in
     let read : slice_get a.groups c.args.index ≡ Some g = rw c.view-view.ensures at c.email.ensures.group in
     let m = with_email c.args.email.now (mapping_of c.args.entry.now) in
-    rw c.view-view.ensures (IsPartitioned-from_ascending nat_list_cmp_total name_key _ g.names
+    rw c.view-view.ensures (IsPartitioned-from_ascending nat_list_cmp_total folded_name _ g.names
     (names_ascend m c.requires.groups c.args.index c.requires.found g read))
 
 pub returns-in_ok-row-in-Ok-clause-ok : goal.returns-in_ok-row-in-Ok-clause-ok

@@ -23,5 +23,5 @@ returns c =
     let pool = c.self.inside.pool.items in
     let same : spelled pool (old_span c.args.texts) ≡ spelled pool (old_span e.texts) =
     rw (← c.self.view_is) at (c.requires.same _ (group_seen es c.self.invariant c.self.view_is c.requires.email read)) in
-    edited es c.self.invariant c.self.view_is c.requires.email read (λ p g. record g { own = fields_of p c.args.texts })
+    edited es c.self.invariant c.self.view_is c.requires.email read (λ p g. record g { unnamed = fields_of p c.args.texts })
     (record e { texts = c.args.texts }) (rw same)

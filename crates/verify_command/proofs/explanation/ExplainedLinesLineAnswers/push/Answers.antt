@@ -1,12 +1,20 @@
-use Rattle.std.proofs.Common.{◌∙◌, ◌++◌, ap}
+use Rattle.std.proofs.Common.{◌∙◌, ◌++◌, ap, append-nil, sym}
 use Rattle.std.proofs.Math.Seq.{take-length}
-use Rattle.verify_command.specs.Explained.{explained_line}
-use Rattle.verify_command.proofs.EachLine.{ended_line, kept_whole}
+use Rattle.mailmap_findings.proofs.WholeLines.{whole_in_order}
+use Rattle.mailmap_grammar.proofs.LineParts.{ended_part, kept_part}
+use Rattle.verify_command.specs.Explained.{each_line, explained_line}
+use Rattle.verify_command.proofs.EachLine.{line_ended}
 use Rattle.verify_command.proofs.explanation.ExplainedLinesLineAnswers.push.Goals as goal
 
 pub returns-in_default-clause-answers : goal.returns-in_default-clause-answers
-returns-in_default-clause-answers c = rw (take-length c.args.part.now) (kept_whole (explained_line c.args.self.now.explainer) c.in_default.ensures c.in_ok-extend_from_slice.ensures.items c.requires)
+returns-in_default-clause-answers c =
+    let answer = explained_line c.args.self.now.explainer in
+    rw (take-length c.args.part.now, c.in_ok-extend_from_slice.ensures.items) (kept_part (each_line answer) (whole_in_order answer) c.in_default.ensures c.requires
+    (sym (append-nil c.args.text.now.items)))
 
 pub returns-clause-answers : goal.returns-clause-answers
-returns-clause-answers c = ended_line c.args.self.now.explainer c.args.part.now c.args.text.now.items c.in-Some.feed c.in-Some.ensures c.clear.ensures.items c.requires
-    (c.in-Ok.ensures.ok ∙ ap (λ t. c.args.text.now.items ++ explained_line c.args.self.now.explainer t) (c.as_slice.ensures.value ∙ c.in_ok-extend_from_slice-2.ensures.items))
+returns-clause-answers c =
+    let g = c.args.self.now.explainer in
+    rw c.clear.ensures.items (ended_part (each_line (explained_line g)) c.args.part.now c.in-Some.feed c.in-Some.ensures
+    (c.in-Ok.ensures.ok ∙ ap (λ t. c.args.text.now.items ++ t) (ap (explained_line g) (c.as_slice.ensures.value ∙ c.in_ok-extend_from_slice-2.ensures.items)
+    ∙ sym (line_ended g c.args.self.now.kept.items c.args.part.now c.in-Some.feed c.in-Some.ensures c.requires))))

@@ -1,11 +1,11 @@
 -- The part is read up to here, and its whole lines are answered.
 use Rattle.std.proofs.Common.{length, ◌-◌}
-use Rattle.mailmap_snapshot.specs.Streams.{AreCachedAnswers, HasRead}
-use Rattle.mailmap_snapshot.proofs.check.stream.push_lines.Given as goal
+use Rattle.mailmap_snapshot.specs.Streams.{AreCachedAnswers, HasTaken}
+use Rattle.mailmap_snapshot.proofs.check.stream.take_lines.Given as goal
 
 abbrev pub invariant-loop-taken : goal.invariant-loop-taken
 invariant-loop-taken l = record {
-  has_read : HasRead l.snapshot l.fn.kept.items l.part l.fn.text.items l.taken l.kept.items l.text.items;
+  has_taken : HasTaken l.snapshot l.fn.kept.items l.part l.fn.text.items l.taken l.kept.items l.text.items;
   cached : AreCachedAnswers l.snapshot l.cache;
 }
 

@@ -1,6 +1,0 @@
-use Rattle.mailmap_snapshot.proofs.Streams.{ended_part}
-use Rattle.mailmap_snapshot.proofs.check.stream.push_line.Goals as goal
-
-pub returns-clause-ok : goal.returns-clause-ok
-returns-clause-ok c = rw (c.in_ok-end_line.ensures.ended, c.in_ok-end_line.ensures.ok)
-    (ended_part c.args.snapshot.now c.args.kept.now.items c.args.part.now c.args.text.now.items c.in-Some.feed c.in-Some.ensures)
