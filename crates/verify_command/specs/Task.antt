@@ -11,6 +11,7 @@ use Rattle.mailmap_suggestions.specs.SuggestedText.{suggested_text, suggestion_t
 use Rattle.mailmap_suggestions.specs.Suggestions.{Suggestion}
 use Rattle.command_line.specs.Answering.{AnswersAll, AnswersAllRead, AnswersRead}
 use Rattle.command_line.specs.Failures.{IsOfFile}
+use Rattle.command_line.specs.declared.failure.Failure.{Failure}
 use Rattle.command_line.specs.declared.failure.Failure.TheVariants.{File, Input, Memory, Output}
 use Rattle.command_line.specs.Files.{AreRead, AtPath, Fails, Gives, NamesFile}
 use Rattle.command_line.specs.Printing.{Prints, PrintsFront}
@@ -52,21 +53,33 @@ version_line = codes "mailmap_verify " ++ VERSION.now ++ 10 ∷ []
 
 -- The text has a line for each finding in the mailmaps that is reported, and nothing else, and the outcome tells
 -- whether one of them counts.
-abbrev pub IsReport : (Text → AtPath) → Option Text → Wanted → Outcome → Text → Type 0
-IsReport at input w outcome text = (mailmaps : List Text) × (findings : List Finding) × AreMailmaps at input w mailmaps
-    × AreFindings mailmaps findings
+abbrev pub IsReportOn : Wanted → List Text → Outcome → Text → Type 0
+IsReportOn w mailmaps outcome text = (findings : List Finding) × AreFindings mailmaps findings
     × Says outcome text (map (finding_piece w.choices (mailmap_names w.choices w.paths)) findings)
 
+abbrev pub IsReport : (Text → AtPath) → Option Text → Wanted → Outcome → Text → Type 0
+IsReport at input w outcome text =
+    (mailmaps : List Text) × AreMailmaps at input w mailmaps × IsReportOn w mailmaps outcome text
+
 -- The text is the one mailmap without its lines that have no effect; git reads each of its lines alike.
+abbrev pub IsPrunedFrom : List Text → Outcome → Text → Type 0
+IsPrunedFrom mailmaps outcome text = (mailmap : Text) × (mailmaps ≡ mailmap ∷ []) × IsPruned mailmap text
+    × (first_read_otherwise mailmaps ≡ None) × (outcome ≡ Clean)
+
 abbrev pub IsPrunedBy : (Text → AtPath) → Option Text → Wanted → Outcome → Text → Type 0
-IsPrunedBy at input w outcome text = (mailmap : Text) × AreMailmaps at input w (mailmap ∷ [])
-    × IsPruned mailmap text × (first_read_otherwise (mailmap ∷ []) ≡ None) × (outcome ≡ Clean)
+IsPrunedBy at input w outcome text =
+    (mailmaps : List Text) × AreMailmaps at input w mailmaps × IsPrunedFrom mailmaps outcome text
 
 -- the text is made from the mailmaps and the contacts
+abbrev pub WithLines : (List Text → Text → Outcome → Text → Type 0) → (Text → AtPath) → Option Text → Wanted → List Text
+    → Outcome → Text → Type 0
+WithLines IsMade at input w mailmaps outcome text =
+    (lines : Text) × AreContacts at w.contacts input lines × IsMade mailmaps lines outcome text
+
 abbrev pub WithContacts : (List Text → Text → Outcome → Text → Type 0) → (Text → AtPath) → Option Text → Wanted → Outcome
     → Text → Type 0
-WithContacts IsMade at input w outcome text = (mailmaps : List Text) × (lines : Text) × AreMailmaps at input w mailmaps
-    × AreContacts at w.contacts input lines × IsMade mailmaps lines outcome text
+WithContacts IsMade at input w outcome text =
+    (mailmaps : List Text) × AreMailmaps at input w mailmaps × WithLines IsMade at input w mailmaps outcome text
 
 -- the lines of a suggestion are no finding
 abbrev pub suggestion_piece : Suggestion → Piece
@@ -95,6 +108,13 @@ abbrev pub HasCause : AtPath → ErrorKind → Type 0
 HasCause (Fails known) cause = cause ≡ known
 HasCause _ cause = ⊤
 
+-- Reading the mailmaps can fail in this way.
+abbrev pub FailsToRead : (Text → AtPath) → Wanted → Failure → Type 0
+FailsToRead at w (File number cause) = (reads_mailmap w ≡ false) × NamesFile at w.paths (File number cause)
+FailsToRead at w (Input cause) = reads_mailmap w ≡ true
+FailsToRead at w Memory = ⊤
+FailsToRead at w Output = ⊥
+
 -- Reading the contacts can fail in this way.
 abbrev pub FailsForContacts : (Text → AtPath) → Text → TaskFailure → Type 0
 FailsForContacts at contacts (Run (Input cause)) = is_dash contacts ≡ true
@@ -102,17 +122,26 @@ FailsForContacts at contacts (Run Memory) = ⊤
 FailsForContacts at contacts (NoContacts cause) = (is_dash contacts ≡ false) × HasCause (at contacts) cause
 FailsForContacts at contacts _ = ⊥
 
+-- With these mailmaps, such a request can fail in this way. The position is that of the mailmap's first line that git
+-- reads in another way.
+abbrev pub FailsOn : (Text → AtPath) → Wanted → List Text → TaskFailure → Type 0
+FailsOn at w mailmaps (Run (File number cause)) = ⊥
+FailsOn at w mailmaps (Run (Input cause)) = reads_contacts w.mode w.contacts ≡ true
+FailsOn at w mailmaps (Run _) = ⊤
+FailsOn at w mailmaps (NoContacts cause) =
+    (takes_contacts w.mode ≡ true) × FailsForContacts at w.contacts (NoContacts cause)
+FailsOn at w mailmaps TooManyFiles = ⊥
+FailsOn at w mailmaps (ReadOtherwise position) =
+    (w.mode ≡ Prune) × (length mailmaps ≡ 1) × (first_read_otherwise mailmaps ≡ Some position)
+
 -- Such a request can fail in this way. A file that can't be read is named by its number among the paths, from 1. The
--- contacts are read after the mailmaps. The position is that of the mailmap's first line that git reads in another way.
+-- contacts are read after the mailmaps.
 abbrev pub FailsFor : (Text → AtPath) → Option Text → Wanted → TaskFailure → Type 0
 FailsFor at input w (Run (File number cause)) = NamesFile at w.paths (File number cause)
 FailsFor at input w (Run (Input cause)) = ReadsInput w
 FailsFor at input w (Run _) = ⊤
-FailsFor at input w (NoContacts cause) = (takes_contacts w.mode ≡ true) × (is_dash w.contacts ≡ false)
-    × HasCause (at w.contacts) cause × ((mailmaps : List Text) × AreMailmaps at input w mailmaps)
 FailsFor at input w TooManyFiles = (w.mode ≡ Prune) × (1 < length w.paths)
-FailsFor at input w (ReadOtherwise position) = (w.mode ≡ Prune) × ((mailmap : Text)
-    × AreMailmaps at input w (mailmap ∷ []) × (first_read_otherwise (mailmap ∷ []) ≡ Some position))
+FailsFor at input w failure = (mailmaps : List Text) × AreMailmaps at input w mailmaps × FailsOn at w mailmaps failure
 
 -- ---- what a run has written
 

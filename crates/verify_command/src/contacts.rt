@@ -1,4 +1,4 @@
-//! Reports on mailmaps together with contacts, or suggests lines for these.
+//! Counts contacts, and reports on them together with mailmaps, or suggests lines for them.
 ghost use Rattle.std.specs.Prelude.{◌≡◌, IfErr, IfOk, OnOk, false, map, true};
 ghost use Rattle.std.specs.Io.KnownBytes.{IsAtEnd};
 ghost use Rattle.std.specs.Slice.Iter.{iter_rest};
@@ -10,18 +10,16 @@ ghost use Rattle.mailmap_contacts.specs.Counts.{AreContactsOf};
 ghost use Rattle.mailmap_suggestions.specs.Views.{suggestion_of};
 ghost use Rattle.verify_command.specs.Report.{IsReportBeside, pieces_beside};
 ghost use Rattle.verify_command.specs.Settings.{choices_of};
-ghost use Rattle.verify_command.specs.Task.{AreContacts, AreSuggested, EndsPrinting, FailsFor, FailsForContacts};
-ghost use Rattle.verify_command.specs.Task.{IsOfMailmap, Leaves, ReadsInput, WithContacts, is_dash};
-ghost use Rattle.verify_command.specs.Task.{reads_contacts, reads_mailmap, suggestion_piece, takes_contacts, wanted_of};
+ghost use Rattle.verify_command.specs.Task.{AreContacts, AreSuggested, EndsPrinting, FailsForContacts, Leaves, is_dash};
+ghost use Rattle.verify_command.specs.Task.{suggestion_piece, wanted_of};
 
-use crate::asked::{Mode, Request, Settings};
+use crate::asked::{Request, Settings};
 use crate::failure::TaskFailure;
 use crate::notice::{contact_notice, remark_notice};
 use crate::report::{Piece, Pieces, notice_piece, print_pieces};
-use crate::task::read_mailmaps;
 use command_line::counting::count_contacts;
 use command_line::failure::Failure;
-use command_line::files::{FileSystem, list_of};
+use command_line::files::FileSystem;
 use command_line::outcome::Outcome;
 use mailmap_contacts::answers::{add_to_needs, answers_to};
 use mailmap_contacts::comparisons::{ContactFinding, findings_of};
@@ -36,71 +34,23 @@ use std::alloc::{AllocError, Global};
 use std::io::{Read, Write};
 use std::slice;
 
-/// Prints the findings in the mailmaps and in a file of contacts, and the lines that no contact needs; or the lines that
-/// the mailmaps lack for the contacts.
+/// Counts the contacts of a file in parts; `-` is the input.
 ///
-/// Reads the mailmaps first, then the contacts in parts; `-` is the input. Nothing is written before everything is
-/// read. Memory grows with the mailmaps, with the distinct contacts, with the number of lines that are no contacts, and
-/// with the longest line, but not with the number of contacts.
-pub(crate) fn with_contacts<F: FileSystem, R: Read, W: Write>(
+/// Memory grows with the distinct contacts, with the number of lines that are no contacts, and with the longest line,
+/// but not with the number of contacts.
+pub(crate) fn read_contacts<F: FileSystem, R: Read>(
     system: &F,
     alloc: Global,
     request: &Request,
-    input: &mut R,
-    output: &mut W,
-) -> Result<Outcome, TaskFailure>
-    requires { takes_contacts request.now.mode ≡ true }
-    ensures report { request.now.mode ≡ Mode.Contacts → Leaves true
-        (WithContacts (IsReportBeside (wanted_of request.now)) (F.at system.now) (R.remaining input.old)
-        (wanted_of request.now)) W.contents output.old output.new result }
-    ensures suggested { request.now.mode ≡ Mode.Suggest → Leaves true (WithContacts AreSuggested
-        (F.at system.now) (R.remaining input.old) (wanted_of request.now)) W.contents output.old output.new result }
-    ensures reads_all { ReadsInput (wanted_of request.now) → OnOk result (IsAtEnd (R.remaining input.new)) }
-    ensures unread { reads_contacts request.now.mode request.now.contacts.items ≡ false
-        → reads_mailmap (wanted_of request.now) ≡ false → input.new ≡ input.old }
-    ensures unread_at_files { IfErr result (λ e. IsOfMailmap e → input.new ≡ input.old) }
-    ensures fails { IfErr result (FailsFor (F.at system.now) (R.remaining input.old) (wanted_of request.now)) }
-{
-    let mailmaps = read_mailmaps(system, alloc, request, input)?;
-    let buffers = list_of(alloc, mailmaps.as_slice())?;
-    let counted = read_contacts(system, alloc, request.contacts.as_slice(), input)?;
-    print_found(alloc, request, buffers.as_slice(), &counted, output)
-}
-
-// Prints what the mode asks for, of the mailmaps in buffers and of the contacts that were counted.
-fn print_found<'a, W: Write>(
-    alloc: Global,
-    request: &Request,
-    buffers: &[&'a [u8]],
-    counted: &'a Contacts,
-    output: &mut W,
-) -> Result<Outcome, TaskFailure>
-    ensures report { (taken : Text) → AreContactsOf (lines_of taken) counted.now → request.now.mode ≡ Mode.Contacts
-        → Leaves true (IsReportBeside (wanted_of request.now) (map (λ b. b.now) buffers.now) taken)
-        W.contents output.old output.new result }
-    ensures suggested { (taken : Text) → AreContactsOf (lines_of taken) counted.now → request.now.mode ≡ Mode.Suggest
-        → Leaves true (AreSuggested (map (λ b. b.now) buffers.now) taken) W.contents output.old output.new result }
-    ensures only { IfErr result EndsPrinting }
-{
-    match request.mode {
-        Mode::Suggest => print_suggestions(alloc, buffers, counted, output),
-        _ => print_report(alloc, request, buffers, counted, output),
-    }
-}
-
-// Counts the contacts of a file; `-` is the input.
-fn read_contacts<F: FileSystem, R: Read>(
-    system: &F,
-    alloc: Global,
-    contacts: &[u8],
     input: &mut R,
 ) -> Result<Contacts, TaskFailure>
-    ensures counts { IfOk result (λ counted. (text : Text) × AreContacts (F.at system.now) contacts.now
+    ensures counts { IfOk result (λ counted. (text : Text) × AreContacts (F.at system.now) request.now.contacts.items
         (R.remaining input.old) text × AreContactsOf (lines_of text) counted) }
-    ensures reads_all { is_dash contacts.now ≡ true → OnOk result (IsAtEnd (R.remaining input.new)) }
-    ensures unread { is_dash contacts.now ≡ false → input.new ≡ input.old }
-    ensures fails { IfErr result (FailsForContacts (F.at system.now) contacts.now) }
+    ensures reads_all { is_dash request.now.contacts.items ≡ true → OnOk result (IsAtEnd (R.remaining input.new)) }
+    ensures unread { is_dash request.now.contacts.items ≡ false → input.new ≡ input.old }
+    ensures fails { IfErr result (FailsForContacts (F.at system.now) request.now.contacts.items) }
 {
+    let contacts = request.contacts.as_slice();
     if contacts == b"-".as_slice() {
         return Ok(count_contacts(alloc, input)?);
     }
@@ -115,11 +65,12 @@ fn read_contacts<F: FileSystem, R: Read>(
     }
 }
 
-fn print_report<'a, W: Write>(
+/// Prints the findings in mailmaps and in the contacts that were counted, and the lines that no contact needs.
+pub(crate) fn print_report<W: Write>(
     alloc: Global,
     request: &Request,
-    buffers: &[&'a [u8]],
-    counted: &'a Contacts,
+    buffers: &[&[u8]],
+    counted: &Contacts,
     output: &mut W,
 ) -> Result<Outcome, TaskFailure>
     ensures leaves { (taken : Text) → AreContactsOf (lines_of taken) counted.now
@@ -183,8 +134,8 @@ impl Pieces for PiecesBeside<'_, '_, '_, '_, '_, '_> {
     }
 }
 
-// Prints the lines that the mailmaps in buffers lack for the contacts that were counted.
-fn print_suggestions<W: Write>(
+/// Prints the lines that the mailmaps in buffers lack for the contacts that were counted.
+pub(crate) fn print_suggestions<W: Write>(
     alloc: Global,
     buffers: &[&[u8]],
     counted: &Contacts,

@@ -6,8 +6,9 @@ ghost use Rattle.mailmap_findings.specs.Positions.{located_lines, located};
 ghost use Rattle.mailmap_redundancy.specs.Redundancy.{AreEffective, entries};
 ghost use Rattle.verify_command.specs.Explained.{explained_line, mapped_text, each_line};
 ghost use Rattle.std.specs.Io.KnownBytes.{IsAtEnd};
-ghost use Rattle.command_line.specs.Files.{texts};
-ghost use Rattle.verify_command.specs.Task.{FailsFor, IsOfMailmap, LeavesExplained, wanted_of};
+ghost use Rattle.command_line.specs.Files.{AreRead, AtPath, texts};
+ghost use Rattle.mailmap_entries.specs.Folding.{Text};
+ghost use Rattle.verify_command.specs.Task.{FailsOn, LeavesExplained, wanted_of};
 ghost use Rattle.mailmap_findings.proofs.WholeLines.{whole_in_order};
 
 use crate::asked::{Mode, Request};
@@ -16,7 +17,6 @@ use crate::report::{push_positions, shown_line};
 use answer_cache::{AnswerCache, hash_of};
 use bstr::ByteSlice;
 use command_line::answering::{LineAnswers, answer_lines};
-use command_line::files::{FileSystem, list_of, read_files};
 use command_line::outcome::Outcome;
 use mailmap_findings::explain::Explanations;
 use mailmap_findings::verify::Mailmaps;
@@ -148,30 +148,29 @@ impl<'p, 'm, 'a> Explainer<'p, 'm, 'a> {
     }
 }
 
-/// Explains the contacts on the input using the mailmaps, which are read first.
+/// Explains the contacts on the input using the mailmaps in buffers.
 ///
 /// Output is written as lines come in, as [`answer_lines`] does. The first failure ends the run.
-pub(crate) fn explain<F: FileSystem, R: Read, W: Write>(
-    system: &F,
+pub(crate) fn explain<R: Read, W: Write>(
     alloc: Global,
     request: &Request,
+    buffers: &[&[u8]],
     input: &mut R,
     output: &mut W,
 ) -> Result<Outcome, TaskFailure>
     requires { request.now.mode ≡ Mode.Explain }
     // All of the input is read, and exactly its explanations are written. After a failure, those of the first whole
     // lines are, or a prefix of them.
-    ensures leaves { LeavesExplained (F.at system.now) (texts request.now.paths.items) (R.remaining input.old)
+    ensures leaves { (at : Text → AtPath)
+        → AreRead at (texts request.now.paths.items) (map (λ b. b.now) buffers.now)
+        → LeavesExplained at (texts request.now.paths.items) (R.remaining input.old)
         (R.remaining input.new) W.contents output.old output.new result }
     ensures reads_all { OnOk result (IsAtEnd (R.remaining input.new)) }
-    ensures unread_at_files { IfErr result (λ e. IsOfMailmap e → input.new ≡ input.old) }
-    ensures fails { IfErr result (FailsFor (F.at system.now) (R.remaining input.old) (wanted_of request.now)) }
+    ensures fails { (at : Text → AtPath)
+        → IfErr result (FailsOn at (wanted_of request.now) (map (λ b. b.now) buffers.now)) }
 {
-    let paths = request.paths.as_slice();
-    let mailmaps = read_files(system, alloc, paths)?;
-    let buffers = list_of(alloc, mailmaps.as_slice())?;
-    let parsed = Mailmaps::read(alloc, buffers.as_slice())?;
-    let explainer = Explainer::new(alloc, paths, &parsed)?;
+    let mailmaps = Mailmaps::read(alloc, buffers)?;
+    let explainer = Explainer::new(alloc, request.paths.as_slice(), &mailmaps)?;
     let kept = Vec::new(alloc);
     let mut lines = ExplainedLines { explainer, kept };
     answer_lines(alloc, &mut lines, input, output)?;

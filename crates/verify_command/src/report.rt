@@ -2,7 +2,7 @@
 ghost use Rattle.std.specs.Prelude.{◌≡◌, ◌++◌, ◌∷◌, ℕ, codes, false, map, option_to_list, take, true, IfErr, IfOk};
 ghost use Rattle.std.specs.Prelude.{OnErr, OnOk, List, if◌then◌else◌};
 ghost use Rattle.std.specs.List.{list_any};
-ghost use Rattle.std.specs.Io.KnownBytes.{Appends, IsAtEnd};
+ghost use Rattle.std.specs.Io.KnownBytes.{Appends};
 ghost use Rattle.mailmap_findings.specs.Findings.{contact_of, kind_of};
 ghost use Rattle.mailmap_grammar.specs.Lines.{fault_of};
 ghost use Rattle.command_line.specs.Files.{texts};
@@ -13,8 +13,7 @@ ghost use Rattle.verify_command.specs.Report.{notice_piece, notice_text, outcome
 ghost use Rattle.verify_command.specs.Report.{position_text, positions_text, report, reported_text, says_text};
 ghost use Rattle.verify_command.specs.Report.{shortened, shown_line, text_of};
 ghost use Rattle.verify_command.specs.Settings.{choices_of};
-ghost use Rattle.verify_command.specs.Task.{EndsPrinting, FailsFor, IsOfMailmap, IsReport, Leaves, reads_mailmap};
-ghost use Rattle.verify_command.specs.Task.{wanted_of};
+ghost use Rattle.verify_command.specs.Task.{EndsPrinting, IsReportOn, Leaves, wanted_of};
 ghost use Rattle.std.specs.Iterator.{YieldsFirstBy};
 ghost use Rattle.command_line.specs.declared.outcome.Outcome.TheVariants.{Found as TheFound};
 ghost use Rattle.std.specs.Option.{option_copied, option_map};
@@ -22,14 +21,12 @@ ghost use Rattle.mailmap_entries.specs.Entries.{mapping_of};
 ghost use Rattle.mailmap_findings.specs.Git.{git_reading_of};
 ghost use Rattle.mailmap_grammar.specs.CanonicalText.{bracketed_email, name_part};
 
-use crate::asked::{Mode, Request, Settings};
+use crate::asked::{Request, Settings};
 use crate::failure::TaskFailure;
 use crate::json::object_line;
 use crate::kinds::Kind;
 use crate::notice::{Notice, Place, finding_notice};
 use crate::shortened::{push_short_contact, push_shortened, shortened};
-use crate::task::read_mailmaps;
-use command_line::files::{FileSystem, list_of};
 use command_line::outcome::Outcome;
 use command_line::printer::Printer;
 use command_line::shown::{may_need_escapes, push_shown};
@@ -41,27 +38,20 @@ use mailmap_findings::verify::{
 use mailmap_grammar::lines::Error;
 use mailmap_grammar::writing::{push_email, push_name};
 use std::alloc::{AllocError, Global};
-use std::io::{Read, Write};
+use std::io::Write;
 
-/// Prints the findings in the mailmaps.
-pub(crate) fn verify<F: FileSystem, R: Read, W: Write>(
-    system: &F,
+/// Prints the findings in the mailmaps in buffers.
+pub(crate) fn verify<W: Write>(
     alloc: Global,
     request: &Request,
-    input: &mut R,
+    buffers: &[&[u8]],
     output: &mut W,
 ) -> Result<Outcome, TaskFailure>
-    requires { request.now.mode ≡ Mode.Verify }
-    ensures leaves { Leaves true (IsReport (F.at system.now) (R.remaining input.old) (wanted_of request.now))
+    ensures leaves { Leaves true (IsReportOn (wanted_of request.now) (map (λ b. b.now) buffers.now))
         W.contents output.old output.new result }
-    ensures reads_all { reads_mailmap (wanted_of request.now) ≡ true → OnOk result (IsAtEnd (R.remaining input.new)) }
-    ensures unread { reads_mailmap (wanted_of request.now) ≡ false → input.new ≡ input.old }
-    ensures unread_at_files { IfErr result (λ e. IsOfMailmap e → input.new ≡ input.old) }
-    ensures fails { IfErr result (FailsFor (F.at system.now) (R.remaining input.old) (wanted_of request.now)) }
+    ensures only { IfErr result EndsPrinting }
 {
-    let mailmaps = read_mailmaps(system, alloc, request, input)?;
-    let buffers = list_of(alloc, mailmaps.as_slice())?;
-    let mailmaps = Mailmaps::read(alloc, buffers.as_slice())?;
+    let mailmaps = Mailmaps::read(alloc, buffers)?;
     let verification = Verification::new(alloc, &mailmaps)?;
     let settings = &request.settings;
     let names = settings.mailmap_names(request.paths.as_slice());

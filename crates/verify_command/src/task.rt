@@ -1,22 +1,22 @@
 //! Runs what the arguments of `mailmap_verify` ask for.
-ghost use Rattle.std.specs.Prelude.{◌≡◌, ◌<◌, ◌∷◌, [], IfErr, IfOk, IsErrOf, OnOk, false, length, true};
+ghost use Rattle.std.specs.Prelude.{◌≡◌, ◌<◌, ◌∷◌, [], IfErr, IfOk, IsErrOf, OnOk, false, length, map, true};
 ghost use Rattle.std.specs.Io.KnownBytes.{IsAtEnd};
-ghost use Rattle.command_line.specs.Files.{texts};
-ghost use Rattle.command_line.specs.declared.outcome.Outcome.TheVariants as ended;
+ghost use Rattle.command_line.specs.Files.{AreRead, texts};
 ghost use Rattle.verify_command.specs.Report.{IsReportBeside};
-ghost use Rattle.verify_command.specs.Task.{AreMailmaps, AreSuggested, EndsPrinting, FailsFor, IsOfMailmap, IsPrunedBy};
-ghost use Rattle.verify_command.specs.Task.{IsKnown, IsReport, Leaves, LeavesExplained, ReadsInput, WithContacts};
-ghost use Rattle.verify_command.specs.Task.{reads_contacts, reads_mailmap, version_line, wanted_of};
+ghost use Rattle.verify_command.specs.Task.{AreMailmaps, AreSuggested, EndsPrinting, FailsFor, FailsToRead, FailsOn};
+ghost use Rattle.verify_command.specs.Task.{IsKnown, IsOfMailmap, IsPrunedBy, IsPrunedFrom, IsReport, IsReportOn, Leaves};
+ghost use Rattle.verify_command.specs.Task.{LeavesExplained, ReadsInput, WithContacts, WithLines, reads_contacts};
+ghost use Rattle.verify_command.specs.Task.{reads_mailmap, version_line, wanted_of};
 
 pub use crate::asked::{Format, Mode, ParseError, Request, Setting, Settings, USAGE};
-use crate::contacts::with_contacts;
+use crate::contacts::{print_report, print_suggestions, read_contacts};
 use crate::explanation::explain;
 use crate::failure::TaskFailure;
 use crate::report::verify;
 pub use crate::request::request_of;
 use command_line::VERSION;
 use command_line::failure::Failure;
-use command_line::files::{FileSystem, read_files};
+use command_line::files::{FileSystem, list_of, read_files};
 use command_line::outcome::Outcome;
 use command_line::streams::{read_input, write_all};
 use mailmap_findings::verify::{first_read_otherwise, prune};
@@ -72,18 +72,92 @@ pub fn perform<F: FileSystem, R: Read, W: Write>(
             let line = version_line(alloc)?;
             print_text(output, line.as_slice())
         }
-        Mode::Verify => verify(system, alloc, request, input, output),
+        Mode::Prune if 1 < request.paths.len() => Err(TaskFailure::TooManyFiles),
+        _ => {
+            let mailmaps = read_mailmaps(system, alloc, request, input)?;
+            let buffers = list_of(alloc, mailmaps.as_slice())?;
+            perform_with(system, alloc, request, buffers.as_slice(), input, output)
+        }
+    }
+}
+
+/// Reads the mailmaps of a request. Stops at the first failure.
+fn read_mailmaps<F: FileSystem, R: Read>(
+    system: &F,
+    alloc: Global,
+    request: &Request,
+    input: &mut R,
+) -> Result<Vec<Vec<u8>>, Failure>
+    ensures ok { IfOk result (λ mailmaps. AreMailmaps (F.at system.now) (R.remaining input.old) (wanted_of request.now)
+        (texts mailmaps.items)) }
+    ensures reads_all { reads_mailmap (wanted_of request.now) ≡ true → OnOk result (IsAtEnd (R.remaining input.new)) }
+    ensures unread { reads_mailmap (wanted_of request.now) ≡ false → input.new ≡ input.old }
+    ensures fails { IfErr result (FailsToRead (F.at system.now) (wanted_of request.now)) }
+{
+    if !request.reads_mailmap() {
+        return read_files(system, alloc, request.paths.as_slice());
+    }
+    let mut mailmaps = Vec::new(alloc);
+    mailmaps.push(read_input(alloc, input)?)?;
+    Ok(mailmaps)
+}
+
+/// Does what is asked for with the mailmaps in buffers.
+fn perform_with<F: FileSystem, R: Read, W: Write>(
+    system: &F,
+    alloc: Global,
+    request: &Request,
+    buffers: &[&[u8]],
+    input: &mut R,
+    output: &mut W,
+) -> Result<Outcome, TaskFailure>
+    ensures report { request.now.mode ≡ Mode.Verify → Leaves true (IsReportOn (wanted_of request.now)
+        (map (λ b. b.now) buffers.now)) W.contents output.old output.new result }
+    ensures pruned { request.now.mode ≡ Mode.Prune → Leaves false (IsPrunedFrom (map (λ b. b.now) buffers.now))
+        W.contents output.old output.new result }
+    ensures with_contacts { request.now.mode ≡ Mode.Contacts → Leaves true
+        (WithLines (IsReportBeside (wanted_of request.now)) (F.at system.now) (R.remaining input.old)
+        (wanted_of request.now) (map (λ b. b.now) buffers.now)) W.contents output.old output.new result }
+    ensures suggested { request.now.mode ≡ Mode.Suggest → Leaves true
+        (WithLines AreSuggested (F.at system.now) (R.remaining input.old) (wanted_of request.now)
+        (map (λ b. b.now) buffers.now)) W.contents output.old output.new result }
+    ensures explained { request.now.mode ≡ Mode.Explain
+        → AreRead (F.at system.now) (texts request.now.paths.items) (map (λ b. b.now) buffers.now)
+        → LeavesExplained (F.at system.now) (texts request.now.paths.items) (R.remaining input.old)
+        (R.remaining input.new) W.contents output.old output.new result }
+    ensures reads_all { reads_contacts request.now.mode request.now.contacts.items ≡ true
+        → OnOk result (IsAtEnd (R.remaining input.new)) }
+    ensures unread { reads_contacts request.now.mode request.now.contacts.items ≡ false → input.new ≡ input.old }
+    ensures fails { IfErr result (FailsOn (F.at system.now) (wanted_of request.now) (map (λ b. b.now) buffers.now)) }
+{
+    match request.mode {
+        // A mailmap is pruned only if git reads each of its lines as the library does.
         Mode::Prune => {
-            let text = pruned(system, alloc, request, input)?;
+            let [mailmap] = buffers else {
+                // Not reached: it is the input, or the file at the only path.
+                return Err(TaskFailure::Run(Failure::Memory));
+            };
+            if let Some(position) = first_read_otherwise(buffers) {
+                return Err(TaskFailure::ReadOtherwise { position });
+            }
+            let text = prune(alloc, mailmap)?;
             print_text(output, text.as_slice())
         }
-        Mode::Explain => explain(system, alloc, request, input, output),
-        Mode::Contacts | Mode::Suggest => with_contacts(system, alloc, request, input, output),
+        Mode::Explain => explain(alloc, request, buffers, input, output),
+        Mode::Contacts => {
+            let counted = read_contacts(system, alloc, request, input)?;
+            print_report(alloc, request, buffers, &counted, output)
+        }
+        Mode::Suggest => {
+            let counted = read_contacts(system, alloc, request, input)?;
+            print_suggestions(alloc, buffers, &counted, output)
+        }
+        _ => verify(alloc, request, buffers, output),
     }
 }
 
 /// Writes a text in which nothing is found.
-pub(crate) fn print_text<W: Write>(output: &mut W, text: &[u8]) -> Result<Outcome, TaskFailure>
+fn print_text<W: Write>(output: &mut W, text: &[u8]) -> Result<Outcome, TaskFailure>
     ensures leaves { Leaves false (IsKnown text.now) W.contents output.old output.new result }
     ensures only { IfErr result EndsPrinting }
 {
@@ -91,68 +165,11 @@ pub(crate) fn print_text<W: Write>(output: &mut W, text: &[u8]) -> Result<Outcom
     Ok(Outcome::Clean)
 }
 
-pub(crate) fn version_line(alloc: Global) -> Result<Vec<u8>, AllocError>
+fn version_line(alloc: Global) -> Result<Vec<u8>, AllocError>
     ensures { IfOk result (λ line. line.items ≡ version_line) }
 {
     let mut line = Vec::from_slice(alloc, b"mailmap_verify ")?;
     line.extend_from_slice(VERSION.as_bytes())?;
     line.push(b'\n')?;
     Ok(line)
-}
-
-/// The one mailmap without its lines that have no effect. A mailmap is pruned only if git reads each of its lines as the
-/// library does.
-pub(crate) fn pruned<F: FileSystem, R: Read>(
-    system: &F,
-    alloc: Global,
-    request: &Request,
-    input: &mut R,
-) -> Result<Vec<u8>, TaskFailure>
-    requires { request.now.mode ≡ Mode.Prune }
-    ensures ok { IfOk result (λ text. IsPrunedBy (F.at system.now) (R.remaining input.old) (wanted_of request.now)
-        ended.Clean text.items) }
-    ensures reads_all { reads_mailmap (wanted_of request.now) ≡ true → OnOk result (IsAtEnd (R.remaining input.new)) }
-    ensures unread { reads_mailmap (wanted_of request.now) ≡ false → input.new ≡ input.old }
-    ensures unread_at_files { IfErr result (λ e. IsOfMailmap e → input.new ≡ input.old) }
-    ensures fails { IfErr result (FailsFor (F.at system.now) (R.remaining input.old) (wanted_of request.now)) }
-    ensures too_many { 1 < length request.now.paths.items → IsErrOf result TaskFailure.TooManyFiles }
-    ensures no_output { ¬ IsErrOf result (TaskFailure.Run Failure.Output) }
-{
-    if 1 < request.paths.len() {
-        return Err(TaskFailure::TooManyFiles);
-    }
-    let mailmaps = read_mailmaps(system, alloc, request, input)?;
-    let [mailmap] = mailmaps.as_slice() else {
-        // Not reached: it is the input, or the file at the only path.
-        return Err(TaskFailure::Run(Failure::Memory));
-    };
-    if let Some(position) = first_read_otherwise(&[mailmap.as_slice()]) {
-        return Err(TaskFailure::ReadOtherwise { position });
-    }
-    Ok(prune(alloc, mailmap.as_slice())?)
-}
-
-/// Reads the mailmaps of a request. Stops at the first failure.
-pub(crate) fn read_mailmaps<F: FileSystem, R: Read>(
-    system: &F,
-    alloc: Global,
-    request: &Request,
-    input: &mut R,
-) -> Result<Vec<Vec<u8>>, TaskFailure>
-    ensures ok { IfOk result (λ mailmaps. AreMailmaps (F.at system.now) (R.remaining input.old) (wanted_of request.now)
-        (texts mailmaps.items)) }
-    ensures reads_all { reads_mailmap (wanted_of request.now) ≡ true → OnOk result (IsAtEnd (R.remaining input.new)) }
-    ensures unread { reads_mailmap (wanted_of request.now) ≡ false → input.new ≡ input.old }
-    ensures unread_at_files { IfErr result (λ e. IsOfMailmap e → input.new ≡ input.old) }
-    ensures fails { IfErr result (FailsFor (F.at system.now) (R.remaining input.old) (wanted_of request.now)) }
-    ensures no_output { ¬ IsErrOf result (TaskFailure.Run Failure.Output) }
-{
-    if !request.reads_mailmap() {
-        return Ok(read_files(system, alloc, request.paths.as_slice())?);
-    }
-    let mut mailmaps = Vec::new(alloc);
-    if mailmaps.push(read_input(alloc, input)?).is_err() {
-        return Err(TaskFailure::Run(Failure::Memory));
-    }
-    Ok(mailmaps)
 }

@@ -1,4 +1,4 @@
-use Rattle.std.proofs.Common.{rules, ◌≡◌, ◌⊎◌, ◌∙◌, Err, List, ℕ, Option, Vec, Global, ⊎_elim, ap, inl, inr, map, refl, subst, sym}
+use Rattle.std.proofs.Common.{rules, ◌≡◌, ◌⊎◌, ◌∙◌, Err, List, ℕ, Option, Vec, Global, ⊎_elim, ap, inr, map, refl, subst, sym, true}
 use Rattle.command_line.specs.Failures.{IsOfFile, IsOfInput}
 use Rattle.command_line.specs.Files.{AreRead, AtPath}
 use Rattle.command_line.specs.Printing.{Prints}
@@ -9,9 +9,8 @@ use Rattle.mailmap_findings.specs.Positions.{located_lines, located}
 use Rattle.mailmap_redundancy.specs.Redundancy.{AreEffective}
 use Rattle.command_line.specs.Answering.{AnswersAll, AnswersAllRead, AnswersRead, LeavesLines}
 use Rattle.verify_command.specs.Explained.{ExplainsBy, Grounds, each_line, explained_line}
-use Rattle.verify_command.specs.Task.{FailsFor, LeavesExplained, ReadsInput, Wanted, reads_contacts, wanted_of}
+use Rattle.verify_command.specs.Task.{FailsOn, LeavesExplained, Wanted, reads_contacts, wanted_of}
 use Rattle.verify_command.specs.declared.failure.TaskFailure.TheVariants.{Run}
-use Rattle.verify_command.proofs.Leaving.{fails_reading, no_input}
 use Rattle.verify_command.proofs.explanation.explain.Given as given
 use Rattle.verify_command.proofs.explanation.explain.Goals as goal
 use Rattle.verify_command.proofs.explanation.explain.Goals.{After-answer_lines}
@@ -47,46 +46,38 @@ explaining_failed {unread = unread} {left} {contents} {old} {new} {e} are only l
 }
 
 -- reading the input failed, or printing
-fails_explaining : (at : Text → AtPath) (input : Option Text) (w : Wanted) (e : Failure) → IsOfInput e ⊎ ((e ≡ Memory) ⊎ (e ≡ Output)) → ReadsInput w → FailsFor at input w (Run e)
-fails_explaining at input w (File number cause) only reads = absurd (no_file (File number cause) only tt)
-fails_explaining at input w (Input cause) only reads = reads
-fails_explaining at input w _ only reads = tt
+fails_explaining : (at : Text → AtPath) (w : Wanted) (mailmaps : List Text) (e : Failure) → IsOfInput e ⊎ ((e ≡ Memory) ⊎ (e ≡ Output)) → reads_contacts w.mode w.contacts ≡ true → FailsOn at w mailmaps (Run e)
+fails_explaining at w mailmaps (File number cause) only reads = no_file (File number cause) only tt
+fails_explaining at w mailmaps (Input cause) only reads = reads
+fails_explaining at w mailmaps _ only reads = tt
 
-grounds : (g : given.Over) (c : After-answer_lines g) → AreGrounds (g.F.FileSystem.at c.args.system.now) c.in_ok-explainer.explainer (map (λ p. p.items) c.args.request.now.paths.items) (map (λ m. m.items) c.in_ok-mailmaps.mailmaps.items)
-grounds g c =
+grounds : (g : given.Over) (c : After-answer_lines g) (at : Text → AtPath) → AreRead at (map (λ p. p.items) c.args.request.now.paths.items) (map (λ b. b.now) c.args.buffers.now)
+    → AreGrounds at c.in_ok-explainer.explainer (map (λ p. p.items) c.args.request.now.paths.items) (map (λ b. b.now) c.args.buffers.now)
+grounds g c at read =
     let items : Vec ℕ Global → List ℕ = λ path. path.items in
-    let mailmaps = map items c.in_ok-mailmaps.mailmaps.items in
-    let paths : map items c.as_slice-paths.result.now ≡ map items c.args.request.now.paths.items = ap (map items) c.as_slice-paths.ensures.value in
     record {
-      read = subst (λ ps. AreRead (g.F.FileSystem.at c.args.system.now) ps mailmaps) paths c.in_ok-mailmaps.ensures.ok;
-      paths_are = c.in_ok-explainer.ensures.paths ∙ paths;
+      read = read;
+      paths_are = c.in_ok-explainer.ensures.paths ∙ ap (map items) c.as_slice.ensures.value;
       history_is = search rules;
       effective = c.in_ok-explainer.ensures.effective;
     }
 
-pub returns-in_err-mailmaps-clause-fails : goal.returns-in_err-mailmaps-clause-fails
-returns-in_err-mailmaps-clause-fails g c =
-    let e = c.in_err-mailmaps.field-0.0 in
-    let failed : c.from_residual.result ≡ Err (Run e) = search rules in
-    rw failed (fails_reading (g.F.FileSystem.at c.args.system.now) (g.R.Read.remaining c.args.input.now) (wanted_of c.args.request.now) e (rw c.as_slice-paths.ensures.value at c.in_err-mailmaps.ensures.file)
-    (λ of_input. absurd (no_input e c.in_err-mailmaps.ensures.only of_input)))
-
 pub returns-in_err-answer_lines-clause-fails : goal.returns-in_err-answer_lines-clause-fails
-returns-in_err-answer_lines-clause-fails g c =
+returns-in_err-answer_lines-clause-fails g c = λ at.
     let e = c.in_err-answer_lines.field-0.0 in
     let failed : c.from_residual-in_err-answer_lines.result ≡ Err (Run e) = search rules in
-    rw failed (fails_explaining (g.F.FileSystem.at c.args.system.now) (g.R.Read.remaining c.args.input.now) (wanted_of c.args.request.now) e c.in_err-answer_lines.ensures.only
-    (inl (ap (λ m. reads_contacts m c.args.request.now.contacts.items) c.requires)))
+    rw failed (fails_explaining at (wanted_of c.args.request.now) (map (λ b. b.now) c.args.buffers.now) e c.in_err-answer_lines.ensures.only
+    (ap (λ m. reads_contacts m c.args.request.now.contacts.items) c.requires))
 
 pub returns-in_err-answer_lines-clause-leaves : goal.returns-in_err-answer_lines-clause-leaves
-returns-in_err-answer_lines-clause-leaves g c =
-    let are = grounds g (goal.at.returns-in_err-answer_lines-clause-leaves g c).After-answer_lines in
+returns-in_err-answer_lines-clause-leaves g c = λ at read.
+    let are = grounds g (goal.at.returns-in_err-answer_lines-clause-leaves g c).After-answer_lines at read in
     let failed : c.from_residual-in_err-answer_lines.result ≡ Err (Run c.in_err-answer_lines.field-0.0) = search rules in
     rw failed (explaining_failed are c.in_err-answer_lines.ensures.only c.in_err-answer_lines.ensures.leaves)
 
 pub returns-clause-leaves : goal.returns-clause-leaves
-returns-clause-leaves g c =
-    let are = grounds g (goal.at.returns-clause-leaves g c).After-answer_lines in
+returns-clause-leaves g c = λ at read.
+    let are = grounds g (goal.at.returns-clause-leaves g c).After-answer_lines at read in
     record {
       prints = (prints_by (λ answers. AnswersAll answers (g.R.Read.remaining c.args.input.now)) (g.W.Write.contents c.args.output.now) (g.W.Write.contents c.answer_lines.new.output) are c.in_ok-answer_lines.ensures.leaves.prints, refl);
       breaks_off = λ is. cc;

@@ -2,9 +2,7 @@ use Rattle.std.proofs.Common.{rules, ◌≡◌, List, ℕ, Bor, Vec, Global, map
 use Rattle.mailmap_findings.specs.Findings.{AreFindings}
 use Rattle.verify_command.specs.Report.{Says, finding_piece, outcome_of, text_of}
 use Rattle.verify_command.specs.Settings.{choices_of, mailmap_names}
-use Rattle.verify_command.proofs.Leaving.{fails_printing, left_pieces, prints_files}
-use Rattle.std.proofs.lemmas.Result.{IfErr-weaker}
-use Rattle.verify_command.specs.Task.{wanted_of}
+use Rattle.verify_command.proofs.Leaving.{left_pieces}
 use Rattle.verify_command.proofs.report.verify.Goals as goal
 
 pub returns-clause-leaves : goal.returns-clause-leaves
@@ -13,15 +11,8 @@ returns-clause-leaves g c =
     let now : Bor (List ℕ) → List ℕ = λ b. b.now in
     let choices = choices_of c.args.request.now.settings in
     let pieces = map (finding_piece choices (map items c.mailmap_names-names.result.now)) c.findings.result in
-    let are : AreFindings (map items c.in_ok-mailmaps.mailmaps.items) c.findings.result = search rules in
+    let are : AreFindings (map now c.args.buffers.now) c.findings.result = search rules in
     let names : map items c.mailmap_names-names.result.now ≡ mailmap_names choices (map items c.args.request.now.paths.items) = search rules in
     left_pieces c.print_findings.result (outcome_of pieces) (text_of pieces)
-    (_, c.findings.result, c.in_ok-mailmaps.ensures.ok, are, subst (λ n. Says (outcome_of pieces) (text_of pieces) (map (finding_piece choices n) c.findings.result)) names (refl, refl))
+    (c.findings.result, are, subst (λ n. Says (outcome_of pieces) (text_of pieces) (map (finding_piece choices n) c.findings.result)) names (refl, refl))
     c.print_findings.ensures.ok c.print_findings.ensures.err c.print_findings.ensures.only
-
-pub returns-clause-fails : goal.returns-clause-fails
-returns-clause-fails g c = IfErr-weaker c.print_findings.result _ _
-    (fails_printing (g.F.FileSystem.at c.args.system.now) (g.R.Read.remaining c.args.input.now) (wanted_of c.args.request.now)) c.print_findings.ensures.only
-
-pub returns-clause-unread_at_files : goal.returns-clause-unread_at_files
-returns-clause-unread_at_files g c = IfErr-weaker c.print_findings.result _ _ prints_files c.print_findings.ensures.only
