@@ -1,5 +1,5 @@
 -- Answering an input part by part: what was read, answered and written.
-use Rattle.std.proofs.Common.{◌≡◌, ◌++◌, ◌∙◌, ◌-◌, ◌+◌, ℕ, List, [], ◌∷◌, Option, None, Some, Result, Ok, Err, OnErr, OnOk, ap, append-nil, append_assoc, arith, drop, inl, length, length-append, refl, subst, sym, take}
+use Rattle.std.proofs.Common.{◌≡◌, ◌++◌, ◌∙◌, ℕ, [], Option, None, Some, Result, Ok, Err, OnErr, OnOk, ap, append-nil, append_assoc, refl, subst, sym, take}
 use Rattle.std.specs.Prelude.{IsOkUnless}
 use Rattle.std.specs.Io.KnownBytes.{Appends, Consumes, IsAtEnd}
 use Rattle.std.proofs.KnownBytes.{Appends-nil, Appends-trans, Consumes-nil, Consumes-trans}

@@ -1,7 +1,7 @@
 -- The first file that can't be read.
 use Rattle.std.proofs.Common.{◌≡◌, ◌+◌, ◌-◌, ◌<◌, ℕ, List, [], arith, get_or, length, subst}
 use Rattle.command_line.specs.Files.{AtPath, Bytes, Fails, FailsWith, Gives, IsOfNumber, MayRead, NamesFile, Unknown}
-use Rattle.command_line.specs.Failures.{Failure, File, Input, Memory, Output}
+use Rattle.command_line.specs.Failures.{Failure, File}
 
 may_read : (held : AtPath) (contents : List ℕ) → Gives held contents → MayRead held
 may_read (Bytes bytes) contents gives = tt
@@ -20,6 +20,4 @@ first_unread at paths contents index (File number cause) within before (is, fail
       before = λ k less. may_read _ (get_or contents k []) (before k (omega arith));
       no_memory = no_memory;
     }
-first_unread at paths contents index (Input cause) within before of = tt
-first_unread at paths contents index Memory within before of = tt
-first_unread at paths contents index Output within before of = tt
+first_unread at paths contents index _ within before of = tt

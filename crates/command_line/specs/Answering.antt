@@ -1,5 +1,5 @@
 -- Answers to the lines of an input, which are written while it is read.
-use Rattle.std.specs.Prelude.{◌≡◌, ◌++◌, ℕ, List, Option, Result, IfSome}
+use Rattle.std.specs.Prelude.{◌≡◌, ℕ, List, Option, Result, IfSome}
 use Rattle.std.specs.Io.KnownBytes.{Consumes}
 use Rattle.mailmap_grammar.specs.LineParts.{AnswersFront}
 use Rattle.command_line.specs.Leaving.{LeavesAnswers}

@@ -5,12 +5,8 @@ pub use Rattle.command_line.specs.declared.failure.Failure.TheVariants.{File, In
 
 abbrev pub IsOfInput : Failure → Type 0
 IsOfInput (Input cause) = ⊤
-IsOfInput (File number cause) = ⊥
-IsOfInput Memory = ⊥
-IsOfInput Output = ⊥
+IsOfInput _ = ⊥
 
 abbrev pub IsOfFile : Failure → Type 0
 IsOfFile (File number cause) = ⊤
-IsOfFile (Input cause) = ⊥
-IsOfFile Memory = ⊥
-IsOfFile Output = ⊥
+IsOfFile _ = ⊥

@@ -4,7 +4,7 @@ use Rattle.std.specs.Prelude.{slice_index_or}
 use Rattle.std.specs.Global.{Vec}
 use Rattle.std.specs.declared.io.ErrorKind.{ErrorKind}
 use Rattle.std.specs.declared.io.ErrorKind.TheVariants.{OutOfMemory}
-use Rattle.command_line.specs.Failures.{Failure, File, Input, Memory, Output}
+use Rattle.command_line.specs.Failures.{Failure, File, Memory}
 
 -- What is at a path: a file with these bytes, no file that can be opened, for this cause, or nobody knows.
 pub data AtPath : Type 0 where
@@ -56,13 +56,10 @@ pub record IsFirstUnread (at : List ℕ → AtPath) (paths : List (List ℕ)) (n
 -- A failure of a file is that of the first that can't be read.
 abbrev pub NamesFile : (List ℕ → AtPath) → List (List ℕ) → Failure → Type 0
 NamesFile at paths (File number cause) = IsFirstUnread at paths number cause
-NamesFile at paths (Input cause) = ⊤
-NamesFile at paths Memory = ⊤
-NamesFile at paths Output = ⊤
+NamesFile at paths _ = ⊤
 
 -- The file with this number can't be read, given what is at its path, or memory ran out.
 abbrev pub IsOfNumber : AtPath → ℕ → Failure → Type 0
 IsOfNumber held number (File named cause) = (named ≡ number) × FailsWith held cause × (cause ≢ OutOfMemory)
-IsOfNumber held number (Input cause) = ⊥
 IsOfNumber held number Memory = ⊤
-IsOfNumber held number Output = ⊥
+IsOfNumber held number _ = ⊥

@@ -1,6 +1,16 @@
 -- Output that is written, in full or in part.
-use Rattle.std.specs.Prelude.{◌≡◌, ◌++◌, ℕ, List, Option, take}
+use Rattle.std.specs.Prelude.{◌≡◌, ◌++◌, ℕ, List, OnErr, OnOk, Option, Result, take}
 use Rattle.std.specs.Io.KnownBytes.{Appends}
+
+-- the output has grown by a prefix of the text
+abbrev pub AppendsFront : Option (List ℕ) → Option (List ℕ) → List ℕ → Type 0
+AppendsFront old new text = (count : ℕ) × Appends old new (take count text)
+
+-- all of the text was written, or a prefix of it before an error
+pub record WritesText {W T E : Type 0} (text : List ℕ) (contents : W → Option (List ℕ)) (old new : W)
+    (result : Result T E) : Type 0 where
+  pub ok : OnOk result (Appends (contents old) (contents new) text)
+  pub err : OnErr result (AppendsFront (contents old) (contents new) text)
 
 -- the output has grown by such a text
 abbrev pub Prints : (List ℕ → Type 0) → Option (List ℕ) → Option (List ℕ) → Type 0
@@ -8,7 +18,7 @@ Prints IsText old new = (text : List ℕ) × IsText text × Appends old new text
 
 -- the output has grown by a prefix of such a text
 abbrev pub PrintsFront : (List ℕ → Type 0) → Option (List ℕ) → Option (List ℕ) → Type 0
-PrintsFront IsText old new = (text : List ℕ) × IsText text × ((count : ℕ) × Appends old new (take count text))
+PrintsFront IsText old new = (text : List ℕ) × IsText text × AppendsFront old new text
 
 -- a prefix of the text is written, and the rest is held
 pub record IsUnderway (text : List ℕ) (old new : Option (List ℕ)) (held : List ℕ) : Type 0 where

@@ -1,9 +1,8 @@
 //! Error messages of the programs.
-ghost use Rattle.std.specs.Prelude.{◌≡◌, ◌-◌, ◌++◌, ◌∷◌, [], ℕ, IfOk, IsOkUnless, OnErr, OnOk, codes};
-ghost use Rattle.std.specs.Prelude.{slice_index_or, take};
-ghost use Rattle.std.specs.Io.KnownBytes.{Appends};
+ghost use Rattle.std.specs.Prelude.{◌≡◌, ◌-◌, ◌++◌, [], IfOk, IsOkUnless, OnOk, codes, slice_index_or};
 ghost use Rattle.command_line.specs.Files.{texts};
 ghost use Rattle.command_line.specs.Messages.{cause_text, failure_text, said, said_by};
+ghost use Rattle.command_line.specs.Printing.{WritesText};
 ghost use Rattle.command_line.specs.Shown.{shown};
 
 use crate::failure::Failure;
@@ -118,9 +117,7 @@ pub fn say<W: Write>(
     lines: Result<Vec<u8>, AllocError>,
     without: &[u8],
 ) -> Result<(), Failure>
-    ensures ok { OnOk result (Appends (W.contents output.old) (W.contents output.new) (said lines without.now)) }
-    ensures err { OnErr result ((count : ℕ) × Appends (W.contents output.old) (W.contents output.new)
-        (take count (said lines without.now))) }
+    ensures writes { WritesText (said lines without.now) W.contents output.old output.new result }
     ensures only { IsOkUnless result Failure.Output }
 {
     match lines {

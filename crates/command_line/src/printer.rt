@@ -1,7 +1,6 @@
 //! Buffered output.
-ghost use Rattle.std.specs.Prelude.{◌≡◌, ◌++◌, [], ℕ, IfOk, IsFalse, IsOkUnless, IsTrue, List, OnErr, OnOk, take};
-ghost use Rattle.std.specs.Io.KnownBytes.{Appends};
-ghost use Rattle.command_line.specs.Printing.{IsUnderway};
+ghost use Rattle.std.specs.Prelude.{◌≡◌, ◌++◌, [], ℕ, IfOk, IsFalse, IsOkUnless, IsTrue, List, OnErr, OnOk};
+ghost use Rattle.command_line.specs.Printing.{AppendsFront, IsUnderway, WritesText};
 
 use crate::failure::Failure;
 use crate::streams::{write_all, write_unflushed};
@@ -52,15 +51,17 @@ impl Printer {
     pub fn print<W: Write>(&mut self, output: &mut W, piece: &[u8]) -> Result<(), Failure>
         ensures ok { OnOk result (IsUnderway (self.old ++ piece.now) (W.contents output.old) (W.contents output.new)
             self.new) }
-        ensures err { OnErr result ((count : ℕ) × Appends (W.contents output.old) (W.contents output.new)
-            (take count (self.old ++ piece.now))) }
+        ensures err { OnErr result (AppendsFront (W.contents output.old) (W.contents output.new)
+            (self.old ++ piece.now)) }
         ensures lost { OnErr result (self.new ≡ []) }
         ensures only { IsOkUnless result Failure.Output }
     {
         if self.hold(piece) {
             return Ok(());
         }
-        self.write_out(output)?;
+        let written = write_unflushed(output, self.held.as_slice());
+        self.held.clear();
+        written?;
         if self.hold(piece) {
             return Ok(());
         }
@@ -70,9 +71,7 @@ impl Printer {
     /// Writes the buffered bytes, and flushes the output. The buffer is empty afterwards, even after an error; then
     /// only a prefix was written.
     pub fn flush<W: Write>(&mut self, output: &mut W) -> Result<(), Failure>
-        ensures ok { OnOk result (Appends (W.contents output.old) (W.contents output.new) self.old) }
-        ensures err { OnErr result ((count : ℕ) × Appends (W.contents output.old) (W.contents output.new)
-            (take count self.old)) }
+        ensures writes { WritesText self.old W.contents output.old output.new result }
         ensures empty { self.new ≡ [] }
         ensures only { IsOkUnless result Failure.Output }
     {
@@ -89,17 +88,5 @@ impl Printer {
         // Appending within the capacity doesn't allocate, so it can't fail.
         piece.len() <= self.held.capacity() - self.held.len()
             && self.held.extend_from_slice(piece).is_ok()
-    }
-
-    fn write_out<W: Write>(&mut self, output: &mut W) -> Result<(), Failure>
-        ensures ok { OnOk result (Appends (W.contents output.old) (W.contents output.new) self.old) }
-        ensures err { OnErr result ((count : ℕ) × Appends (W.contents output.old) (W.contents output.new)
-            (take count self.old)) }
-        ensures empty { self.new ≡ [] }
-        ensures only { IsOkUnless result Failure.Output }
-    {
-        let written = write_unflushed(output, self.held.as_slice());
-        self.held.clear();
-        written
     }
 }

@@ -16,10 +16,11 @@ pub fn push_shown(line: &mut Vec<u8>, text: &[u8]) -> Result<(), AllocError>
     ensures { OnOk result (line.new.items ≡ line.old.items ++ shown text.now) }
 {
     let mut rest = text;
-    while !rest.is_empty() {
+    while let [_, ..] = rest {
         let (char, size) = decode_utf8(rest);
-        push_piece(line, char, &rest[..size])?;
-        rest = &rest[size..];
+        let (piece, after) = rest.split_at(size);
+        push_piece(line, char, piece)?;
+        rest = after;
     }
     Ok(())
 }

@@ -1,8 +1,9 @@
 //! Reads from a reader, and writes a text to a writer.
-ghost use Rattle.std.specs.Prelude.{◌≡◌, ◌≢◌, ◌⊎◌, ◌<◌, ◌≤◌, ℕ, IfErr, IfOk, IsErrOf, IsOkUnless, OnErr, OnOk};
-ghost use Rattle.std.specs.Prelude.{length, take};
-ghost use Rattle.std.specs.Io.KnownBytes.{Appends, Consumes, IsAtEnd, Keeps};
+ghost use Rattle.std.specs.Prelude.{◌≡◌, ◌≢◌, ◌⊎◌, ◌<◌, ◌≤◌, IfErr, IfOk, IsErrOf, IsOkUnless, OnErr, OnOk, length};
+ghost use Rattle.std.specs.Prelude.{take};
+ghost use Rattle.std.specs.Io.KnownBytes.{Consumes, IsAtEnd, Keeps};
 ghost use Rattle.command_line.specs.Failures.{IsOfInput};
+ghost use Rattle.command_line.specs.Printing.{WritesText};
 
 use crate::failure::Failure;
 use std::alloc::Global;
@@ -62,9 +63,7 @@ pub fn read_part<R: Read>(reader: &mut R, buffer: &mut [u8]) -> Result<usize, Er
 ///
 /// On an error, only a prefix of the text was written. `write_all` of std doesn't promise that.
 pub fn write_all<W: Write>(writer: &mut W, text: &[u8]) -> Result<(), Failure>
-    ensures ok { OnOk result (Appends (W.contents writer.old) (W.contents writer.new) text.now) }
-    ensures err { OnErr result ((count : ℕ) × Appends (W.contents writer.old) (W.contents writer.new)
-        (take count text.now)) }
+    ensures writes { WritesText text.now W.contents writer.old writer.new result }
     ensures only { IsOkUnless result Failure.Output }
 {
     write_unflushed(writer, text)?;
@@ -73,9 +72,7 @@ pub fn write_all<W: Write>(writer: &mut W, text: &[u8]) -> Result<(), Failure>
 
 /// Writes all of a text without flushing. On an error, only a prefix of the text was written.
 pub fn write_unflushed<W: Write>(writer: &mut W, text: &[u8]) -> Result<(), Failure>
-    ensures ok { OnOk result (Appends (W.contents writer.old) (W.contents writer.new) text.now) }
-    ensures err { OnErr result ((count : ℕ) × Appends (W.contents writer.old) (W.contents writer.new)
-        (take count text.now)) }
+    ensures writes { WritesText text.now W.contents writer.old writer.new result }
     ensures only { IsOkUnless result Failure.Output }
 {
     let mut written = 0;

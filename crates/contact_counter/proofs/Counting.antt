@@ -1,5 +1,5 @@
 -- Contacts counted line by line.
-use Rattle.std.proofs.Common.{◌≡◌, ◌∙◌, ◌+◌, ◌<◌, ℕ, suc, Bool, Option, List, [], ◌∷◌, ◌++◌, add-zero, ap, append-nil, append_assoc, arith, get_or, length, refl, set, sym, rules, take, drop}
+use Rattle.std.proofs.Common.{◌≡◌, ◌∙◌, ◌+◌, ◌<◌, ℕ, suc, Bool, Option, List, [], ◌∷◌, ◌++◌, add-zero, ap, append-nil, arith, get_or, length, refl, set, sym, rules, take, drop}
 use Rattle.std.specs.List.{AllByRecursion, flat_map}
 use Rattle.std.proofs.lemmas.List.{length-append, set-get_or, set_split}
 use Rattle.std.proofs.lemmas.List.Elements.{All-from_recursion, All-get_or}

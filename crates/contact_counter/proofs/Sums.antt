@@ -1,7 +1,7 @@
 -- Adding up occurrences.
 use Rattle.std.proofs.Common.{◌≡◌, ◌∙◌, ℕ, Bool, Option, None, Some, List, [], ◌∷◌, ◌++◌, ap, map, refl, sym, rules}
 use Rattle.std.specs.Prelude.{if◌then◌else◌}
-use Rattle.contact_counter.specs.Contacts.{Contact, Tally, both_seen, seen_where, sum_of}
+use Rattle.contact_counter.specs.Contacts.{Contact, Tally, both_seen, seen_where}
 use Rattle.contact_counter.specs.Counts.{SameTallies}
 use Rattle.contact_counter.specs.declared.occurrences.Occurrences.{Occurrences}
 

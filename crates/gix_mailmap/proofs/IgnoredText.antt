@@ -1,5 +1,5 @@
 -- A line means the same without its ignored text.
-use Rattle.std.proofs.Common.{◌≡◌, ◌≢◌, ℕ, true, false, true≢false, Some, Ok, List, [], ◌∷◌, ◌++◌, length, length-append, append-nil, append_assoc, inl, ⊎_elim, refl, sym, ap, subst, ◌∙◌, arith}
+use Rattle.std.proofs.Common.{◌≡◌, ◌≢◌, ℕ, true, false, true≢false, Some, Ok, [], ◌∷◌, ◌++◌, length, length-append, append_assoc, inl, ⊎_elim, refl, sym, ap, subst, ◌∙◌, arith}
 use Rattle.std.specs.Char.{encode_utf8}
 use Rattle.std.specs.Str.{encode_utf8_all}
 use Rattle.mailmap_entries.specs.Entries.{Mapping}

@@ -6,7 +6,7 @@ ghost use Rattle.mailmap_suggestions.specs.SuggestedText.{suggestions_text};
 ghost use Rattle.mailmap_suggestions.specs.Views.{suggestion_of};
 ghost use Rattle.verify_command.specs.Explained.{ExplainsAll, each_line, explained_line};
 ghost use Rattle.gix_mailmap_c.specs.Buffers.{IsOutput};
-ghost use Rattle.gix_mailmap_c.specs.Several.{c_position, cut_by, names_in, suggested_for, texts_in};
+ghost use Rattle.gix_mailmap_c.specs.Several.{c_position, names_in, suggested_for, texts_in};
 ghost use Rattle.gix_mailmap_c.specs.Several.{AreUnneededOf, IsReportOf};
 
 use crate::buffers::hand;

@@ -1,11 +1,11 @@
 //! Calls that take a mailmap as text and keep nothing.
 ghost use Rattle.std.specs.Prelude.{◌≡◌, ◌∷◌, [], IfOk};
 ghost use Rattle.mailmap_grammar.specs.Lines.{fault_of};
-ghost use Rattle.mailmap_findings.specs.Findings.{IsPruned, finding_of, kind_of};
+ghost use Rattle.mailmap_findings.specs.Findings.{IsPruned, kind_of};
 ghost use Rattle.mailmap_snapshot.specs.Contacts.{answers_by};
 ghost use Rattle.mailmap_snapshot.specs.Writing.{IsCompacted};
 ghost use Rattle.gix_mailmap_c.specs.Buffers.{IsOutput};
-ghost use Rattle.gix_mailmap_c.specs.Findings.{beside_line, fault_number, kind_number, c_finding, AreFindingsOf};
+ghost use Rattle.gix_mailmap_c.specs.Findings.{beside_line, fault_number, kind_number, AreFindingsOf};
 
 use crate::buffers::hand;
 use mailmap_findings::verify::{self, FindingKind};

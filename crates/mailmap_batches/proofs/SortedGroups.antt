@@ -1,42 +1,84 @@
 -- A batch that is sorted by prefix, and then within each group of entries with the same prefix: `group_sorted` is for the
 -- loop of `sorted_groups`, `by_names` for `sort_group`, and `sorted_from` for `sorted`.
-use Rattle.std.proofs.Common.{◌≡◌, ◌<◌, ◌≤◌, ◌-◌, ◌+◌, ℕ, Bool, true, false, List, [], ◌∷◌, ◌++◌}
+use Rattle.std.proofs.Common.{◌≡◌, ◌<◌, ◌≤◌, ◌-◌, ◌+◌, ℕ, true, false, List, [], ◌∷◌, ◌++◌}
 use Rattle.std.proofs.Common.{All, map, take, drop, get_or, length, Option, Ordering, Equal, Greater, refl, sym}
 use Rattle.std.proofs.Common.{ap, ap₂, subst, subst₂, ◌∙◌, arith, length-drop}
 use Rattle.std.specs.Cmp.{IsTotalOrder, tied_itself}
-use Rattle.std.specs.Cmp.Lexicographic.{nat_list_cmp_total, options_total}
+use Rattle.std.specs.Cmp.Lexicographic.{nat_list_cmp_total}
+use Rattle.std.specs.Fn.{Called}
 use Rattle.std.specs.List.{AllByRecursion, enumerate_from}
-use Rattle.std.specs.List.Sorted.{IsNonDecreasingBy, IsPermutation, IsSortedByKey, IsStableByKey, ties}
+use Rattle.std.specs.List.Sorted.{IsNonDecreasingBy, IsPermutation, IsSortedByClosure, IsSortedByKey, IsStableByClosure}
+use Rattle.std.specs.List.Sorted.{IsStableByKey, ties}
 use Rattle.std.specs.Option.{option_cmp}
 use Rattle.std.specs.Ordering.{is_le, is_lt, nat_cmp, ordering_reverse, ordering_then}
 use Rattle.std.proofs.lemmas.Bool.Decides.{nat_tests}
-use Rattle.std.proofs.lemmas.Cmp.{nat_cmp_total}
 use Rattle.std.proofs.lemmas.List.{get_or-drop, get_or-take, length-take, map-append}
 use Rattle.std.proofs.Math.Seq.{take-add}
 use borrow.Rule.Slice.PartMut.{mid_of}
-use Rattle.std.proofs.lemmas.List.Elements.{All-from_get_or, All-from_recursion, All-head, All-tail, All-take, All-weaker}
-use Rattle.std.proofs.lemmas.List.Elements.{recursion_from_All}
+use denote.Param.Members.{Mut}
+use denote.Ref.{Bor}
+use Rattle.std.proofs.lemmas.List.Elements.{All-from_get_or, All-head, All-tail, All-take, All-weaker, recursion_from_All}
 use Rattle.std.proofs.lemmas.List.Sorted.{All-permutation, IsPermutation-append, IsPermutation-map, IsPermutation-refl, IsPermutation-trans}
-use Rattle.std.proofs.lemmas.List.Sorted.{ranks_by, sorted_far}
+use Rattle.std.proofs.lemmas.List.Sorted.{answers_always, ranks_by, sorted_far}
 use Rattle.mailmap_entries.specs.Entries.{Mapping}
 use Rattle.mailmap_entries.specs.Folding.{Text, text_cmp}
-use Rattle.mailmap_entries.specs.Prefixes.{AreBytes, key_prefix}
+use Rattle.mailmap_entries.specs.Prefixes.{AreBytes}
 use Rattle.mailmap_entries.specs.Semantics.{Key, key, key_cmp, of_key}
 use Rattle.mailmap_entries.proofs.Alike.{picked-append}
 use Rattle.mailmap_entries.proofs.Keys.{keys_total}
 use Rattle.mailmap_entries.proofs.Parts.{all_append, all_mapped}
 use Rattle.mailmap_entries.proofs.Prefixes.{prefix_less}
-use Rattle.mailmap_batches.specs.Batches.{IsAscending, IsSorted, IsSortedFrom, email_prefix, email_text, indexed_mapping}
+use Rattle.mailmap_batches.specs.Batches.{IsAscending, IsSorted, IsSortedFrom, KeepsOrder, email_at, email_prefix, indexed_mapping}
 use Rattle.mailmap_batches.specs.Batches.{key_at, mapping_at}
 use Rattle.mailmap_batches.specs.declared.indexed.IndexedEntry.{IndexedEntry}
 use Rattle.mailmap_batches.proofs.Numbered.{ascending_from, mapped_twice, numbered}
 use Rattle.mailmap_batches.proofs.Stable.{keyed_from_stable}
 
--- ---- one group after another
+-- ---- entries that keep the order of those of each key
+
+pub kept : (xs : List IndexedEntry) → KeepsOrder xs xs
+kept xs = record { moved = IsPermutation-refl xs; keyed = λ k. refl }
+
+pub kept_then : {xs ys zs : List IndexedEntry} → KeepsOrder xs ys → KeepsOrder ys zs → KeepsOrder xs zs
+kept_then {xs} {ys} {zs} p q = record {
+  moved = IsPermutation-trans xs ys zs p.moved q.moved;
+  keyed = λ k. p.keyed k ∙ q.keyed k;
+}
 
 of_key-append : (xs ys : List IndexedEntry) (k : Key)
     → of_key (map mapping_at (xs ++ ys)) k ≡ of_key (map mapping_at xs) k ++ of_key (map mapping_at ys) k
 of_key-append xs ys k = grind (arith, map-append, picked-append)
+
+kept_joined : (xs ys xs' ys' : List IndexedEntry) → KeepsOrder xs xs' → KeepsOrder ys ys'
+    → KeepsOrder (xs ++ ys) (xs' ++ ys')
+kept_joined xs ys xs' ys' s t = record {
+  moved = IsPermutation-append xs xs' ys ys' s.moved t.moved;
+  keyed = λ k. of_key-append xs ys k ∙ ap₂ (λ l m. l ++ m) (s.keyed k) (t.keyed k) ∙ sym (of_key-append xs' ys' k);
+}
+
+module _ {K : Type 0} {R : K → K → Ordering} (o : IsTotalOrder R) (by : IndexedEntry → K)
+    (told : (p q : IndexedEntry) → key_at p ≡ key_at q → by p ≡ by q) (old new : List IndexedEntry)
+    (moved : IsPermutation old new) where
+  -- a stable sort by what the key tells
+  pub kept_by : IsStableByKey by R old new → KeepsOrder old new
+  kept_by stable = record {
+    moved = moved;
+    keyed = keyed_from_stable mapping_at (λ p q. is_lt (R (by p) (by q))) (λ p q e. tied p q (told p q e)) old new stable;
+  }
+    where
+      tied : (p q : IndexedEntry) → by p ≡ by q → ties (λ p q. is_lt (R (by p) (by q))) p q ≡ true
+      tied p q e = let same = tied_itself o (by p) in grind arith
+
+  -- what the clauses of `sort_by` say where the closure compares what the key tells
+  pub sorted_by : {F : Type 0} {g : Mut F (Bor IndexedEntry × (Bor IndexedEntry × Unit {0})) Ordering} {f : F}
+      → IsStableByClosure g f old new → IsSortedByClosure g f new
+      → ((f : F) (a : Bor IndexedEntry × (Bor IndexedEntry × Unit {0})) (r : Ordering) (f' : F) → Called g f a r f'
+      → r ≡ R (by a.0.now) (by a.1.0.now)) → KeepsOrder old new × IsSortedByKey by R new
+  sorted_by stable sorted says =
+      let compares = answers_always _ _ _ (λ f a r f' called. ap is_lt (says f a r f' called)) in
+      (kept_by (stable _ (ranks_by o by) compares), sorted _ (ranks_by o by) compares)
+
+-- ---- one group after another
 
 abbrev IsNotBelow : IndexedEntry → IndexedEntry → Type 0
 IsNotBelow q p = is_lt (key_cmp (key_at q) (key_at p)) ≡ false
@@ -59,26 +101,25 @@ ascending_join (x ∷ xs) ys s t a =
 sorted_joined : (xs ys xs' ys' : List IndexedEntry) → IsSortedFrom xs xs' → IsSortedFrom ys ys' → All (IsAtMost ys) xs
     → IsSortedFrom (xs ++ ys) (xs' ++ ys')
 sorted_joined xs ys xs' ys' s t a = record {
-  moved = IsPermutation-append xs xs' ys ys' s.moved t.moved;
-  keyed = λ k. of_key-append xs ys k ∙ ap₂ (λ l m. l ++ m) (s.keyed k) (t.keyed k) ∙ sym (of_key-append xs' ys' k);
-  ascending = ascending_join xs' ys' s.ascending t.ascending (All-permutation (IsAtMost ys') xs xs' s.moved
-      (All-weaker (IsAtMost ys) (IsAtMost ys') (λ p. All-permutation (λ q. IsNotBelow q p) ys ys' t.moved) xs a));
+  kept = kept_joined xs ys xs' ys' s.kept t.kept;
+  ascending = ascending_join xs' ys' s.ascending t.ascending (All-permutation (IsAtMost ys') xs xs' s.kept.moved
+      (All-weaker (IsAtMost ys) (IsAtMost ys') (λ p. All-permutation (λ q. IsNotBelow q p) ys ys' t.kept.moved) xs a));
 }
 
 abbrev pub HasBytes : IndexedEntry → Type 0
-HasBytes p = AreBytes (email_text (mapping_at p))
+HasBytes p = AreBytes (email_at p)
 
 -- an entry with a greater prefix is not below one with a smaller
 greater_key : (p q : IndexedEntry) → HasBytes p → HasBytes q → email_prefix p < email_prefix q → IsNotBelow q p
 greater_key p q a b lt =
-    let x = email_text (mapping_at p) in
-    let y = email_text (mapping_at q) in
-    let above : text_cmp y x ≡ Greater = nat_list_cmp_total.antisymm y x ∙ ap ordering_reverse (prefix_less 16 x y a b lt) in
+    let x = email_at p in
+    let y = email_at q in
+    let above : text_cmp y x ≡ Greater =
+    nat_list_cmp_total.antisymm y x ∙ ap ordering_reverse (prefix_less 16 x y a b lt) in
     ap (λ o. is_lt (ordering_then o (option_cmp text_cmp (key_at q).1 (key_at p).1))) above
 
 -- if the prefix rises at an index, no entry from there on is below one before it
-pub rises_at : (xs : List IndexedEntry) (e : ℕ) → 0 < e → e ≤ length xs → All HasBytes xs
-    → IsNonDecreasingBy email_prefix xs
+rises_at : (xs : List IndexedEntry) (e : ℕ) → 0 < e → e ≤ length xs → All HasBytes xs → IsNonDecreasingBy email_prefix xs
     → ((d : IndexedEntry) → e < length xs → email_prefix (get_or xs (e - 1) d) < email_prefix (get_or xs e d))
     → All (IsAtMost (drop e xs)) (take e xs)
 rises_at xs e some le bytes ascending rises i d i_lt =
@@ -113,52 +154,32 @@ group_sorted xs ys group a e lt le bytes ascending greater before sorted =
 
 pub one_sorted : (xs : List IndexedEntry) → length xs ≡ 1 → IsSortedFrom xs xs
 one_sorted [] e = absurd (omega (arith, e))
-one_sorted (x ∷ []) e = record { moved = IsPermutation-refl (x ∷ []); keyed = λ k. refl; ascending = (tt, tt) }
+one_sorted (x ∷ []) e = record { kept = kept (x ∷ []); ascending = (tt, tt) }
 one_sorted (x ∷ y ∷ xs) e = absurd (omega (arith, e))
 
 pub none_sorted : (xs : List IndexedEntry) → IsSortedTo 0 xs []
 none_sorted xs = record {
-  sorted = record { moved = IsPermutation-refl []; keyed = λ k. refl; ascending = tt };
+  sorted = record { kept = kept []; ascending = tt };
   apart = λ i d lt. absurd (omega arith);
 }
 
--- a sort of entries that keep the order of those of each key
-pub sorted_after : (xs ys zs : List IndexedEntry) → IsPermutation xs ys
-    → ((k : Key) → of_key (map mapping_at xs) k ≡ of_key (map mapping_at ys) k) → IsSortedFrom ys zs → IsSortedFrom xs zs
-sorted_after xs ys zs moved keyed s = record {
-  moved = IsPermutation-trans xs ys zs moved s.moved;
-  keyed = λ k. keyed k ∙ s.keyed k;
-  ascending = s.ascending;
-}
-
--- ---- stable sorts
-
--- a stable sort by what the key tells keeps the entries of each key
-pub keyed_by : {K : Type 0} {R : K → K → Ordering} (o : IsTotalOrder R) (by : IndexedEntry → K)
-    → ((p q : IndexedEntry) → key_at p ≡ key_at q → by p ≡ by q) → (old new : List IndexedEntry)
-    → IsStableByKey by R old new → (k : Key) → of_key (map mapping_at old) k ≡ of_key (map mapping_at new) k
-keyed_by {K} {R} o by told =
-    keyed_from_stable mapping_at (λ p q. is_lt (R (by p) (by q))) (λ p q e. tied p q (told p q e))
-  where
-    tied : (p q : IndexedEntry) → by p ≡ by q → ties (λ p q. is_lt (R (by p) (by q))) p q ≡ true
-    tied p q e = let same = tied_itself o (by p) in grind arith
+-- ---- the entries of one email, by name
 
 pub ascending_by_key : (xs : List IndexedEntry) → IsSortedByKey key_at key_cmp xs
     → IsAscending key_cmp (map key_at xs)
 ascending_by_key xs sorted = ascending_from key_cmp key_at xs (sorted_far _ (ranks_by keys_total key_at) xs sorted)
 
--- ---- the entries of one email, by name
-
 abbrev pub name_at : IndexedEntry → Option Text
 name_at p = (key_at p).1
 
-pub by_names : (email : Text) (xs : List IndexedEntry) → All (λ p. email_text (mapping_at p) ≡ email) xs
+pub by_names : (first : IndexedEntry → IndexedEntry) (xs : List IndexedEntry)
+    → ((d : IndexedEntry) → All (λ p. email_at p ≡ email_at (first d)) xs)
     → IsSortedByKey name_at (option_cmp text_cmp) xs → IsSortedByKey key_at key_cmp xs
-by_names email xs one sorted k d low lt =
+by_names first xs one sorted k d low lt =
     let p = get_or xs k d in
     let q = get_or xs (k + 1) d in
-    let tied : text_cmp (email_text (mapping_at q)) (email_text (mapping_at p)) ≡ Equal =
-    ap₂ text_cmp (one (k + 1) d lt) (one k d (omega arith)) ∙ tied_itself nat_list_cmp_total email in
+    let tied : text_cmp (email_at q) (email_at p) ≡ Equal =
+    ap₂ text_cmp (one d (k + 1) d lt) (one d k d (omega arith)) ∙ tied_itself nat_list_cmp_total (email_at (first d)) in
     ap (λ o. is_lt (ordering_then o (option_cmp text_cmp (name_at q) (name_at p)))) tied ∙ sorted k d low lt
 
 -- ---- all entries
@@ -168,18 +189,16 @@ le_from_answer m n e = grind (arith, nat_tests)
 
 -- entries with their indexes, which are sorted by prefix and then by key
 pub sorted_from : (xs : List Mapping) (old mid new : List IndexedEntry) → map indexed_mapping old ≡ enumerate_from 0 xs
-    → IsPermutation old mid → IsStableByKey email_prefix nat_cmp old mid → IsSortedFrom mid new
-    → IsSorted xs (map indexed_mapping new)
-sorted_from xs old mid new is moved stable sorted =
+    → KeepsOrder old mid → IsSortedFrom mid new → IsSorted xs (map indexed_mapping new)
+sorted_from xs old mid new is first sorted =
     let says : (ps : List IndexedEntry) → map (λ p. p.1) (map indexed_mapping ps) ≡ map mapping_at ps =
     mapped_twice indexed_mapping (λ p. p.1) in
+    let whole = kept_then first sorted.kept in
     record {
       keeps = record {
-        moved = subst (λ l. IsPermutation l (map indexed_mapping new)) is
-            (IsPermutation-map indexed_mapping old new (IsPermutation-trans old mid new moved sorted.moved));
-        keyed = λ k. ap (λ l. of_key l k) (sym (numbered 0 xs) ∙ ap (map (λ p. p.1)) (sym is) ∙ says old)
-            ∙ keyed_by nat_cmp_total email_prefix (λ p q e. ap (λ (j : Key). key_prefix 16 j.0) e) old mid stable k
-            ∙ sorted.keyed k ∙ ap (λ l. of_key l k) (sym (says new));
+        moved = subst (λ l. IsPermutation l (map indexed_mapping new)) is (IsPermutation-map indexed_mapping old new whole.moved);
+        keyed = λ k. ap (λ l. of_key l k) (sym (numbered 0 xs) ∙ ap (map (λ p. p.1)) (sym is) ∙ says old) ∙ whole.keyed k
+            ∙ ap (λ l. of_key l k) (sym (says new));
       };
       ascending = subst (IsAscending key_cmp) (sym (mapped_twice indexed_mapping (λ p. key p.1) new)) sorted.ascending;
     }

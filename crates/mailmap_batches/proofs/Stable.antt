@@ -1,6 +1,6 @@
 -- What a stable sort by key preserves.
 use Rattle.std.proofs.Common.{◌≡◌, Bool, true, false, ◌&&◌, List, [], ◌∷◌, map, filter, All}
-use Rattle.std.proofs.Common.{refl, sym, ap, subst, ◌∙◌}
+use Rattle.std.proofs.Common.{refl, sym, ap, subst, ◌∙◌, arith}
 use Rattle.std.specs.List.Sorted.{IsStableBy, ties}
 use Rattle.std.specs.Ordering.{eq_by_cmp}
 use Rattle.std.proofs.Math.Bool.{and_comm}
@@ -29,9 +29,7 @@ keyed_from_stable {X} f lt tied qs ps stable k =
         (map f l) ∙ sym (filter-filter is_accepted t (map f l)) ∙ ap accepted (filter-map t f l)
 
     absorbed : (b c : Bool) → (c ≡ true → b ≡ true) → (b && c) ≡ c
-    absorbed true c h = refl
-    absorbed false true h = h refl
-    absorbed false false h = refl
+    absorbed b c h = grind arith
 
     picks : (x : X) → has x ≡ true → (l : List X) → filter has (filter (ties lt x) l) ≡ filter has l
     picks x is l = filter-filter has (ties lt x) l

@@ -22,18 +22,16 @@ indexed_mapping p = (p.index, mapping_at p)
 abbrev pub email_text : Mapping → Text
 email_text m = folded m.old_email
 
+abbrev pub email_at : IndexedEntry → Text
+email_at p = email_text (mapping_at p)
+
 -- the first sixteen bytes of the folded old email as a number
 abbrev pub email_prefix : IndexedEntry → ℕ
-email_prefix p = key_prefix 16 (email_text (mapping_at p))
+email_prefix p = key_prefix 16 (email_at p)
 
 -- the same of the old name, 0 if there is none
 abbrev pub name_prefix : IndexedEntry → ℕ
 name_prefix p = key_prefix 16 (unwrap_or (key_at p).1 [])
-
--- the folded old email of the first entry
-abbrev pub first_email : List Mapping → Text
-first_email [] = []
-first_email (m ∷ ms) = email_text m
 
 -- no key is below one that comes before it
 abbrev pub IsAscending : {K : Type 0} → (K → K → Ordering) → List K → Type 0
@@ -50,8 +48,12 @@ pub record IsSorted (xs : List Mapping) (ps : List (ℕ × Mapping)) : Type 0 wh
   pub keeps : KeepsKeys xs ps
   pub ascending : IsAscending key_cmp (map (λ p. key p.1) ps)
 
--- the same entries in ascending order of their keys; those with equal keys keep their order
-pub record IsSortedFrom (old new : List IndexedEntry) : Type 0 where
+-- the same entries; those with equal keys keep their order
+pub record KeepsOrder (old new : List IndexedEntry) : Type 0 where
   pub moved : IsPermutation old new
   pub keyed : (k : Key) → of_key (map mapping_at old) k ≡ of_key (map mapping_at new) k
+
+-- the same in ascending order of the keys
+pub record IsSortedFrom (old new : List IndexedEntry) : Type 0 where
+  pub kept : KeepsOrder old new
   pub ascending : IsAscending key_cmp (map key_at new)

@@ -6,12 +6,12 @@
 ghost use Rattle.std.specs.Prelude.{◌≡◌, ◌<◌, ◌≤◌, ◌-◌, IfOk, OnOk, [], drop, length, map, slice_index_or, take};
 ghost use Rattle.std.specs.Option.{option_cmp};
 ghost use Rattle.std.specs.List.{All, enumerate_from};
-ghost use Rattle.std.specs.List.Sorted.{IsNonDecreasingBy, IsPermutation};
+ghost use Rattle.std.specs.List.Sorted.{IsNonDecreasingBy};
 ghost use Rattle.mailmap_entries.specs.Folding.{folded, text_cmp};
 ghost use Rattle.mailmap_entries.specs.Prefixes.{AreBytes};
-ghost use Rattle.mailmap_entries.specs.Semantics.{Key, key_cmp, of_key};
-ghost use Rattle.mailmap_batches.specs.Batches.{IsSorted, IsSortedFrom, email_prefix, email_text, indexed_mapping, key_at};
-ghost use Rattle.mailmap_batches.specs.Batches.{mapping_at, name_prefix};
+ghost use Rattle.mailmap_entries.specs.Semantics.{key_cmp};
+ghost use Rattle.mailmap_batches.specs.Batches.{IsSorted, IsSortedFrom, KeepsOrder, email_at, email_prefix, indexed_mapping};
+ghost use Rattle.mailmap_batches.specs.Batches.{key_at, name_prefix};
 ghost use Rattle.mailmap_batches.specs.InOrder.{in_order};
 ghost use Rattle.mailmap_batches.specs.declared.indexed.IndexedEntry.{IndexedEntry as SpecEntry};
 
@@ -34,10 +34,7 @@ pub fn sorted<'e, 'a, T: HasEntry<'a>>(
     if batch.is_sorted_by_key(email_prefix) {
         return sorted_groups(alloc, &InOrder::Given(&batch));
     }
-    let mut prefixed = with_prefixes(alloc, &batch)?;
-    drop(batch);
-    prefixed.sort_by_key(stored_prefix)?;
-    sorted_groups(alloc, &InOrder::Sorted(&prefixed))
+    sorted_groups(alloc, &InOrder::Sorted(&sorted_by_prefix(alloc, batch)?))
 }
 
 // The entries with their indexes. The clause `bytes` is for the lemma that texts with unequal prefixes are in the order
@@ -48,7 +45,7 @@ fn indexed<'e, 'a, T: HasEntry<'a>>(
 ) -> Result<Vec<IndexedEntry<'e, 'a>>, AllocError>
     ensures indexed { IfOk result
         (λ batch. map indexed_mapping batch.items ≡ enumerate_from 0 (map T.mapped entries.now)) }
-    ensures bytes { IfOk result (λ batch. All (λ p. AreBytes (email_text (mapping_at p))) batch.items) }
+    ensures bytes { IfOk result (λ batch. All (λ p. AreBytes (email_at p)) batch.items) }
 {
     let mut batch = Vec::with_capacity(alloc, entries.len())?;
     for (index, item) in entries.iter().enumerate() {
@@ -60,6 +57,7 @@ fn indexed<'e, 'a, T: HasEntry<'a>>(
 }
 
 // Any text consists of bytes.
+#[tactic(auto, using(mailmap_entries::proofs::Prefixes::folded_bytes))]
 fn has_bytes(text: &[u8])
     ensures { AreBytes (folded text.now) }
 {}
@@ -70,16 +68,19 @@ fn email_prefix(indexed: &IndexedEntry) -> u128
     key_prefix(indexed.entry.old_email())
 }
 
-fn with_prefixes<'e, 'a>(
+fn sorted_by_prefix<'e, 'a>(
     alloc: Global,
-    batch: &[IndexedEntry<'e, 'a>],
+    batch: Vec<IndexedEntry<'e, 'a>>,
 ) -> Result<Vec<PrefixedEntry<'e, 'a>>, AllocError>
-    ensures { IfOk result (λ prefixed. prefixed.items ≡ batch.now) }
+    ensures kept { IfOk result (λ prefixed. KeepsOrder batch.entry.items prefixed.items) }
+    ensures ascending { IfOk result (λ prefixed. IsNonDecreasingBy email_prefix prefixed.items) }
 {
     let mut prefixed = Vec::with_capacity(alloc, batch.len())?;
-    for indexed in batch {
+    for indexed in &batch {
         prefixed.push(with_prefix(*indexed))?;
     }
+    drop(batch);
+    prefixed.sort_by_key(stored_prefix)?;
     Ok(prefixed)
 }
 
@@ -134,7 +135,7 @@ fn sorted_groups<'e, 'a>(
     alloc: Global,
     entries: &InOrder<'_, 'e, 'a>,
 ) -> Result<Vec<IndexedEntry<'e, 'a>>, AllocError>
-    requires bytes { All (λ p. AreBytes (email_text (mapping_at p))) (in_order entries.now) }
+    requires bytes { All (λ p. AreBytes (email_at p)) (in_order entries.now) }
     requires ascending { IsNonDecreasingBy email_prefix (in_order entries.now) }
     ensures { IfOk result (λ batch. IsSortedFrom (in_order entries.now) batch.items) }
 {
@@ -183,8 +184,7 @@ const FEW: usize = 20;
 
 // Sorts many entries by the prefixes of their old names, so that few texts are compared after it.
 fn sort_name_prefixes(group: &mut Vec<IndexedEntry>) -> Result<(), AllocError>
-    ensures permutation { IsPermutation group.old.items group.new.items }
-    ensures keyed { (k : Key) → of_key (map mapping_at group.old.items) k ≡ of_key (map mapping_at group.new.items) k }
+    ensures { KeepsOrder group.old.items group.new.items }
 {
     if group.len() <= FEW {
         return Ok(());

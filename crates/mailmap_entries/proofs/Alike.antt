@@ -1,13 +1,13 @@
 -- Alike lists of mappings have the same normal list and the same answers, and alike parts make alike wholes.
-use Rattle.std.proofs.Common.{◌≡◌, Bool, ◌||◌, List, [], ◌++◌, map, filter, Option, Some, None, unwrap_or, option_map, sym, ap, ◌∙◌, rules, arith}
+use Rattle.std.proofs.Common.{◌≡◌, Bool, ◌||◌, List, ◌++◌, map, filter, Option, option_map, ap, ◌∙◌, rules, arith}
 use Rattle.std.specs.Prelude.{◌↔◌}
-use Rattle.std.specs.Option.{option_or, option_flatten}
+use Rattle.std.specs.Option.{option_or}
 use Rattle.std.proofs.lemmas.List.{map-append}
 use Rattle.std.proofs.lemmas.List.Elements.{filter-append, filter_map-append, All-weaker}
 use Rattle.std.specs.List.{list_any}
 use Rattle.mailmap_entries.specs.Entries.{Mapping}
 use Rattle.mailmap_entries.specs.Folding.{Text}
-use Rattle.mailmap_entries.specs.Semantics.{of_email, Key, key, first, last, accepted, of_key, has_key, last_given, mapping_with, no_fields, value, answer_of, IsNormal, is_accepted}
+use Rattle.mailmap_entries.specs.Semantics.{Key, key, first, last, accepted, has_key, last_given, value, answer_of, IsNormal, is_accepted}
 use Rattle.mailmap_entries.proofs.Parts.{first-append, last-append, option_map-or, list_any-append, and_then-flatten}
 pub use Rattle.mailmap_entries.specs.Alike.{Alike, first_name}
 

@@ -1,5 +1,5 @@
 -- What merges build, and what the merged entries can be replaced by.
-use Rattle.std.proofs.Common.{arith, ◌≡◌, ◌≢◌, ◌||◌, Bool, true, false, true≢false, List, [], ◌∷◌, ◌++◌, Option, Some, None, IsSome, if◌then◌else◌, unwrap_or, option_map, append-nil, refl, sym, ap, subst, ◌∙◌}
+use Rattle.std.proofs.Common.{arith, ◌≡◌, ◌≢◌, Bool, true, false, true≢false, List, [], ◌∷◌, ◌++◌, Option, Some, None, IsSome, if◌then◌else◌, unwrap_or, append-nil, refl, sym, ap, subst, ◌∙◌}
 use Rattle.std.specs.Prelude.{◌↔◌}
 use Rattle.std.proofs.lemmas.Bool.{false_from_ne_true}
 use Rattle.std.specs.Cmp.Lexicographic.{nat_list_cmp_total}
@@ -11,14 +11,14 @@ use Rattle.std.proofs.lemmas.Map.Lookups.{exact_bytes}
 use Rattle.mailmap_entries.specs.Entries.{Mapping}
 use Rattle.mailmap_entries.specs.Folding.{Text, folded, text_cmp}
 use Rattle.mailmap_entries.specs.Building.{IsMerged, IsBuilt, nothing, merged, out_of_memory}
-use Rattle.mailmap_entries.specs.Semantics.{Key, Fields, key, key_cmp, last, first, new_fields, last_given, last_fields, given_fields, spelling, IsNormal, accepted, is_accepted, of_email, of_key, no_fields, unless_empty, fields_with_spelling, answer_of, fields_for}
+use Rattle.mailmap_entries.specs.Semantics.{Key, Fields, key, key_cmp, spelling, IsNormal, accepted, is_accepted, of_email, no_fields, unless_empty, fields_with_spelling, answer_of, fields_for}
 use Rattle.mailmap_entries.proofs.Alike.{Alike, same_normal, alike_accepted, alike_back, alike_itself, alike_joined, first_parts, last_parts, given_parts, key_parts}
 use Rattle.mailmap_entries.proofs.Exists.{normal, is_normal}
 use Rattle.mailmap_entries.proofs.Joined.{IsApart, alike_trans, alike_swapped}
 use Rattle.mailmap_entries.proofs.Keys.{exactly_tied, keys_total, keys_exact}
 use Rattle.mailmap_entries.proofs.Normal.{alike_normal, normal_nothing, normal_then}
 use Rattle.mailmap_entries.proofs.Parts.{filter_all}
-use Rattle.mailmap_entries.proofs.Reorder.{by_email, of_name}
+use Rattle.mailmap_entries.proofs.Reorder.{by_email}
 use Rattle.mailmap_entries.proofs.Unique.{normal_unique}
 
 -- ---- only the accepted entries count

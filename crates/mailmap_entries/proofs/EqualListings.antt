@@ -1,9 +1,8 @@
 -- Listings that compare as equal are the same. The laws about their equality and their hash follow from that.
-use Rattle.std.proofs.Common.{arith, ◌≡◌, ◌&&◌, true, true≢false, List, Option, Some, None, refl, sym, ap, ap₂, subst}
+use Rattle.std.proofs.Common.{arith, ◌≡◌, List, Option}
 use Rattle.std.specs.Bool.{Decides, IsTrue}
-use Rattle.std.specs.Cmp.{IsEquivalence, IsPartialEquivalence, both_ways, partial_equiv_from_equiv, first_so, second_so}
-use Rattle.std.specs.Prelude.{nat_eq}
-use lib.Pointwise.{pointwise, pointwise_decides, bytes_decides}
+use Rattle.std.specs.Cmp.{IsEquivalence, IsPartialEquivalence, partial_equiv_from_equiv}
+use lib.Pointwise.{pointwise_decides, bytes_decides}
 use Rattle.mailmap_entries.specs.Entries.{Mapping}
 use Rattle.mailmap_entries.specs.Folding.{Text}
 use Rattle.mailmap_entries.specs.Listings.{same_optional, same_entry, same_entries, entries_hashed}

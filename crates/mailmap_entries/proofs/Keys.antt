@@ -1,5 +1,5 @@
 -- The orders of keys and of entries are total, and no two different ones compare as equal.
-use Rattle.std.proofs.Common.{◌≡◌, true, Option, Some, None, Ordering, Equal, is_eq, refl, ap, arith}
+use Rattle.std.proofs.Common.{◌≡◌, true, Option, Some, None, Ordering, Equal, is_eq, ap, arith}
 use Rattle.std.specs.Prelude.{◌↔◌}
 use Rattle.std.specs.Ordering.{eq_by_cmp, ordering_then}
 use Rattle.std.proofs.lemmas.Map.Views.{tells_apart}

@@ -1,5 +1,5 @@
 -- Sixteen bytes in lower case at once give the same as byte by byte.
-use Rattle.std.proofs.Common.{◌≡◌, ◌+◌, ◌%◌, ℕ, Bool, true, false, cond, leb, ◌&&◌, List, [], ◌∷◌, length, map, replicate, bit_and, refl, ap₂, ◌∙◌, arith}
+use Rattle.std.proofs.Common.{◌≡◌, ◌+◌, ◌%◌, ℕ, Bool, cond, leb, ◌&&◌, List, [], ◌∷◌, length, map, replicate, bit_and, refl, ap₂, ◌∙◌, arith}
 use Rattle.std.proofs.lemmas.Bool.Decides.{nat_tests}
 use Rattle.std.specs.Char.{to_ascii_lowercase}
 use Rattle.std.specs.Simd.Lanes.{zip2, sel_l, top}

@@ -1,14 +1,13 @@
 -- A normal list is alike the list that it was made from.
-use Rattle.std.proofs.Common.{◌≡◌, Bool, true, cond, ◌||◌, List, [], ◌∷◌, ◌++◌, map, filter, Option, Some, None, is_some, unwrap_or, option_map, All, subst, true≢false, refl, sym, ap, ◌∙◌, arith}
+use Rattle.std.proofs.Common.{◌≡◌, Bool, true, cond, ◌||◌, List, [], ◌∷◌, ◌++◌, map, filter, Some, None, is_some, unwrap_or, option_map, All, subst, true≢false, refl, sym, ap, ◌∙◌, arith}
 use Rattle.std.proofs.lemmas.Map.Views.{tells_apart}
 use Rattle.std.specs.List.{AllByRecursion, list_any}
-use Rattle.std.specs.Option.{option_and_then}
 use Rattle.std.specs.Ordering.{eq_by_cmp}
 use Rattle.std.proofs.lemmas.List.Elements.{recursion_from_All, All-filter, filter_passes}
 use Rattle.std.proofs.lemmas.Map.Lookups.{exact_bytes}
 use Rattle.mailmap_entries.specs.Entries.{Mapping}
 use Rattle.mailmap_entries.specs.Folding.{Text, text_cmp, folded}
-use Rattle.mailmap_entries.specs.Semantics.{Key, key, key_cmp, first, last, is_accepted, accepted, of_email, of_key, has_key, new_fields, no_fields, last_given, spelling, value, IsNormal}
+use Rattle.mailmap_entries.specs.Semantics.{Key, key, key_cmp, first, last, is_accepted, accepted, of_email, of_key, has_key, new_fields, no_fields, spelling, value, IsNormal}
 use Rattle.mailmap_entries.proofs.Ascending.{has_itself, one_at, each_key, same_any}
 use Rattle.mailmap_entries.proofs.Alike.{Alike, same_normal, alike_joined, alike_back, alike_itself}
 use Rattle.mailmap_entries.proofs.Keys.{keys_total, keys_exact}

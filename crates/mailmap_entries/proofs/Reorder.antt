@@ -1,5 +1,5 @@
 -- Lists with the same entries for each email are alike.
-use Rattle.std.proofs.Common.{arith, ◌≡◌, ◌&&◌, List, filter, Option, is_some, Ordering, is_eq, sym, ◌∙◌}
+use Rattle.std.proofs.Common.{arith, ◌≡◌, ◌&&◌, List, filter, Option, Ordering, is_eq, sym, ◌∙◌}
 use Rattle.std.specs.Ordering.{eq_by_cmp, ordering_then}
 use Rattle.std.specs.Option.{option_cmp}
 use Rattle.std.proofs.lemmas.List.Elements.{filter_agree}

@@ -1,5 +1,5 @@
 -- The lines of buffers and their entries, and iterations over them that stay in step with the effective entries.
-use Rattle.std.proofs.Common.{◌≡◌, None, Option, Some, List, [], ◌∷◌, ◌++◌, Bool, true, false, if◌then◌else◌, cond, filter, map, option_to_list, append_assoc, IfSome, refl, ap, ◌∙◌, ◌≢◌, ◌+◌, ◌<◌, ◌≤◌, ℕ, length, drop, get_or, Bor, Less, Greater, inl, inr, ⊎_elim, sym, subst, arith, rules, zero, suc, Result, Ok, Err, Equal, ◌-◌}
+use Rattle.std.proofs.Common.{◌≡◌, None, Some, List, [], ◌∷◌, ◌++◌, Bool, true, false, if◌then◌else◌, filter, map, IfSome, refl, ap, ◌∙◌, ◌+◌, ◌<◌, ◌≤◌, ℕ, length, drop, get_or, Bor, Less, inr, ⊎_elim, sym, subst, arith, rules, Result, Ok, Err, ◌-◌}
 use Rattle.std.specs.List.{AllByRecursion, HoldsAt, cons_option, flat_map, list_any}
 use Rattle.std.specs.Option.{option_map}
 use Rattle.mailmap_entries.specs.Entries.{Mapping}

@@ -1,5 +1,5 @@
 -- Lines that arrive in parts: whole lines after whole lines, and the answers to parts together.
-use Rattle.std.proofs.Common.{◌≡◌, ◌⊎◌, ◌∙◌, ◌+◌, ◌-◌, ℕ, List, [], ◌∷◌, ◌++◌, None, Some, ap, append-nil, append_assoc, arith, drop, inl, inr, length, length-append, refl, slice_index, subst, sym, take}
+use Rattle.std.proofs.Common.{◌≡◌, ◌⊎◌, ◌∙◌, ◌+◌, ◌-◌, ℕ, [], ◌∷◌, ◌++◌, None, Some, ap, append-nil, append_assoc, arith, drop, inl, inr, length, length-append, refl, slice_index, subst, sym, take}
 use Rattle.std.proofs.lemmas.Bool.{eq-eqb, eqb-true}
 use Rattle.std.proofs.lemmas.List.{get_or_push, length_push, take_rest}
 use Rattle.std.proofs.Math.Seq.{take-add}

@@ -1,8 +1,8 @@
 -- The origins of an answer determine it, it needs no other entry, and they move with their entries.
-use Rattle.std.proofs.Common.{rules, ◌≡◌, Bool, true, false, true≢false, cond, ◌&&◌, List, [], ◌∷◌, ◌++◌, map, filter, filter_map, Option, Some, None, IfSome, is_some, unwrap_or, option_to_list, refl, sym, ap, ap₂, subst, ◌∙◌, if◌then◌else◌, option_map, arith}
+use Rattle.std.proofs.Common.{rules, ◌≡◌, Bool, true, false, true≢false, cond, List, [], ◌∷◌, ◌++◌, map, filter, Option, Some, None, IfSome, is_some, unwrap_or, option_to_list, refl, sym, ap, ◌∙◌, if◌then◌else◌, option_map, arith}
 use Rattle.std.specs.List.{AllByRecursion}
 use Rattle.std.proofs.lemmas.Map.Text.{is_eq-slice_cmp}
-use Rattle.mailmap_entries.proofs.Parts.{filter-map, option_map-or, all_head, all_last, all_tail, and_then-flatten, filter-filter, is_some-option_map, last_of_one}
+use Rattle.mailmap_entries.proofs.Parts.{filter-map, option_map-or, is_some-option_map, last_of_one}
 use Rattle.std.specs.Option.{option_and_then, option_map, option_or}
 use Rattle.std.specs.Ordering.{eq_by_cmp}
 use Rattle.std.proofs.lemmas.List.Elements.{All-filter, All-from_recursion, recursion_from_All}

@@ -1,5 +1,4 @@
 -- An accepted entry is redundant exactly if without it its key is still there and has the same value.
-use Rattle.std.proofs.lemmas.Grind.{common_steps}
 use Rattle.std.proofs.Common.{rules, ◌≡◌, Bool, true, false, List, [], ◌∷◌, ◌++◌, filter, Option, None, Some, refl, ap, sym, ◌∙◌, true≢false, append_assoc, ⊎_elim, inl, inr, is_some, unwrap_or, subst, arith}
 use Rattle.std.specs.Prelude.{◌↔◌, ◌⊎◌, ◌&&◌, ◌||◌, IfSome, nat_eq}
 use Rattle.std.specs.Bool.{Decides}

@@ -1,11 +1,11 @@
 -- The rows of a table, what summaries decide, the loop of one pass, and passes until one drops nothing.
 use Rattle.std.proofs.lemmas.Grind.{common_steps, get_or-set_at}
-use Rattle.std.proofs.Common.{rules, ◌≡◌, ◌<◌, ◌+◌, ◌≢◌, ℕ, Bool, true, false, cond, List, [], ◌∷◌, ◌++◌, filter, take, drop, length, get_or, set, append-nil, inl, inr, refl, sym, ap, subst, ◌∙◌, arith, true≢false, map, ◌≤◌}
+use Rattle.std.proofs.Common.{rules, ◌≡◌, ◌<◌, ◌+◌, ◌≢◌, ℕ, Bool, true, false, cond, List, [], ◌∷◌, ◌++◌, filter, take, drop, length, get_or, set, append-nil, inl, inr, refl, sym, ap, subst, ◌∙◌, arith, true≢false, ◌≤◌}
 use Rattle.std.specs.Prelude.{Contains, All}
 use Rattle.std.specs.List.{AllByRecursion}
 use Rattle.std.specs.List.Sorted.{IsStrictlySortedBy}
 use Rattle.std.proofs.lemmas.Bool.{eqb-true, eqb-false}
-use Rattle.std.proofs.lemmas.List.{map_more, drop_more, length-set, get_or-set_other, map-append, map_push}
+use Rattle.std.proofs.lemmas.List.{map_more, drop_more, length-set, get_or-set_other, map_push}
 use Rattle.std.proofs.lemmas.List.Elements.{filter-append, All-drop, All-push, recursion_from_All}
 use Rattle.std.proofs.lemmas.Option.{same_Some, slice_get_within, get_or_from_slice_get}
 use Rattle.mailmap_entries.specs.Folding.{Text, folded}

@@ -8,7 +8,7 @@ ghost use Rattle.mailmap_entries.specs.Entries.{mapping_of};
 ghost use Rattle.mailmap_entries.specs.Folding.{folded, text_cmp};
 ghost use Rattle.mailmap_entries.specs.Semantics.{Key as SpecKey, key, key_cmp, is_accepted};
 ghost use Rattle.mailmap_redundancy.specs.Redundancy.{located_of};
-ghost use Rattle.mailmap_redundancy.specs.Numbers.{AreAscending, IsNumber, IsNumbered, IsPushed, IsNotBelowLast, last_key, located_entry_of, located_mappings};
+ghost use Rattle.mailmap_redundancy.specs.Numbers.{AreAscending, IsNumber, IsNumbered, IsPushed, IsNotBelowLast, last_key, located_mappings};
 
 use crate::located::LocatedEntry;
 use mailmap_batches::batch::sorted;

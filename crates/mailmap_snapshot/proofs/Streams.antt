@@ -1,14 +1,13 @@
 -- Contacts that arrive in parts get the same answers as all at once, line by line.
-use Rattle.std.proofs.Common.{set, ◌≡◌, ◌+◌, ◌-◌, ◌<◌, ℕ, Some, None, List, [], ◌∷◌, ◌++◌, length, take, drop, append-nil, append_assoc, refl, sym, ap, subst, ◌∙◌, arith, inl, inr, ◌≢◌, unwrap_or}
+use Rattle.std.proofs.Common.{set, ◌≡◌, ◌+◌, ◌-◌, ◌<◌, ℕ, Some, None, List, [], ◌∷◌, ◌++◌, length, take, drop, append-nil, append_assoc, refl, sym, ap, ◌∙◌, arith, inl, inr, ◌≢◌, unwrap_or}
 use Rattle.std.specs.List.{flat_map}
-use Rattle.std.proofs.lemmas.Bool.{eq-eqb, eqb-false, eqb-true}
+use Rattle.std.proofs.lemmas.Bool.{eqb-false, eqb-true}
 use Rattle.std.proofs.lemmas.Grind.{flat_map-append}
 use Rattle.std.proofs.lemmas.List.{drop_at, length-drop, length-take-le, take_rest, nil_from_length}
-use Rattle.std.proofs.Math.Seq.{take-add, take-length}
+use Rattle.std.proofs.Math.Seq.{take-length}
 use Rattle.bstr.specs.Find.{IsFirstByte, is_byte}
 use Rattle.mailmap_entries.specs.Entries.{Mapping}
 use Rattle.mailmap_entries.specs.Folding.{Text}
-use Rattle.mailmap_entries.proofs.Parts.{all_append}
 use Rattle.mailmap_entries.specs.Semantics.{Fields, IsNormal, no_fields}
 use Rattle.mailmap_entries.proofs.Alike.{alike_answer}
 use Rattle.mailmap_entries.proofs.Normal.{alike_normal}
@@ -20,7 +19,6 @@ use Rattle.answer_cache.specs.CachedLines.{CachedLine, Inserts}
 use Rattle.std.proofs.lemmas.List.Elements.{All-push, All-same, All-set}
 use Rattle.mailmap_snapshot.specs.Streams.{AreCachedAnswers, AnswersParts, HasTaken}
 use Rattle.mailmap_snapshot.proofs.ContactLines.{contact_lines-append, contact_lines-nil, contact_lines-open}
-use Rattle.mailmap_grammar.proofs.Plain.{last_at}
 
 -- a normal list gives the same answers as the mappings that it is made from
 pub same_answers : (h n : List Mapping) → IsNormal h n → (contacts : Text) → answers n contacts ≡ answers h contacts

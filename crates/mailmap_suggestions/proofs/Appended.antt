@@ -1,20 +1,20 @@
 -- What answers depend on, what appended entries change, and the entries that make all answers the one that is wanted.
-use Rattle.std.proofs.Common.{⊎_elim, ◌≡◌, Bool, true, false, List, [], ◌∷◌, Option, Some, None, if◌then◌else◌, unwrap_or, option_map, refl, sym, ap, ◌∙◌, rules, ◌≢◌, ◌⊎◌, inl, inr, cond, filter, filter_map, true≢false, ◌&&◌, ◌||◌, ◌++◌, is_none, append-nil, is_some, bytes_eq, Bor, not, append_assoc, subst, arith, map, IsSome}
+use Rattle.std.proofs.Common.{◌≡◌, Bool, true, false, List, [], ◌∷◌, Option, Some, None, if◌then◌else◌, unwrap_or, option_map, refl, sym, ap, ◌∙◌, rules, ◌≢◌, ◌⊎◌, inl, inr, cond, filter, true≢false, ◌&&◌, ◌||◌, ◌++◌, is_none, append-nil, is_some, bytes_eq, Bor, not, append_assoc, subst, arith, map, IfSome}
 use Rattle.std.specs.Option.{option_or, option_copied}
-use Rattle.mailmap_entries.specs.Entries.{Mapping, mapping}
+use Rattle.mailmap_entries.specs.Entries.{Mapping}
 use Rattle.mailmap_entries.specs.Folding.{Text, folded, text_cmp}
-use Rattle.mailmap_entries.specs.Semantics.{Fields, first, given_fields, last, last_fields, new_fields, no_fields, of_email, of_key, spelling, Key, accepted, is_accepted, key, key_cmp}
+use Rattle.mailmap_entries.specs.Semantics.{Fields, first, given_fields, last, last_fields, last_given, new_fields, no_fields, of_email, of_key, spelling, Key, accepted, is_accepted, key, key_cmp}
 use Rattle.mailmap_entries.proofs.Building.{same_text, same_key}
 use Rattle.mailmap_entries.proofs.Reorder.{by_email, of_name}
 use Rattle.mailmap_contacts.specs.Contacts.{Contact, answer_to, same_contact}
-use Rattle.std.specs.List.{AllByRecursion, list_all, flat_map, list_any}
+use Rattle.std.specs.List.{AllByRecursion, flat_map, list_any}
 use Rattle.std.specs.Ordering.{eq_by_cmp}
 use Rattle.mailmap_entries.proofs.Parts.{all_apply, all_last, all_weaker, last_of_one, all_append}
 use Rattle.mailmap_suggestions.specs.GroupEntries.{HasNoEmptyName}
 use Rattle.mailmap_contacts.proofs.Steps.{all_filtered, all_unfiltered}
 use Rattle.mailmap_entries.proofs.Alike.{first_parts, given_parts, last_parts, picked-append}
 use Rattle.mailmap_suggestions.specs.Private.{fields_to, AreChangesBy, IsPlain, after, are_enough, given_in}
-use Rattle.mailmap_suggestions.specs.Forms.{Histories, IsAnswered, Stays, git_answer_to, is_answered, own_key, plus, alike, are_answered, distinct, entries_for_email, entries_to, has_own_entry, is_short_enough, long_form, name_unless_empty, named_entries, named_form, of_old_email, plain_entries, short_form}
+use Rattle.mailmap_suggestions.specs.Forms.{Histories, IsAnswered, git_answer_to, is_answered, own_key, plus, alike, are_answered, distinct, entries_for_email, entries_to, has_own_entry, is_short_enough, long_form, name_unless_empty, named_entries, named_form, of_old_email, plain_entries, short_form}
 use Rattle.mailmap_entries.proofs.Joined.{never, filter_none}
 use Rattle.std.proofs.lemmas.Bool.{or_right, false_from_ne_true, and_parts}
 use Rattle.std.specs.BTreeMap.{is_at}
@@ -24,7 +24,7 @@ use Rattle.mailmap_contacts.specs.Answers.{folded_cmp, tally_of}
 use Rattle.contact_counter.specs.declared.tallies.Tally.{Tally as TheTally}
 use Rattle.mailmap_contacts.specs.declared.folded.Folded.{Folded}
 use Rattle.mailmap_suggestions.specs.declared.changes.Changes.{Changes}
-use Rattle.mailmap_suggestions.proofs.Distinct.{equal_bytes, all_among, all_joined, all_of, at, each, in_filter, kept_part, same_bytes}
+use Rattle.mailmap_suggestions.proofs.Distinct.{◌∈◌, equal_bytes, all_among, all_joined, all_of, at, each, in_filter, kept_part, same_bytes}
 use Rattle.std.proofs.lemmas.Grind.{common_steps}
 
 -- ==== what answers depend on, and what appended entries change
@@ -73,41 +73,43 @@ pub empty_or : (t : Text) → (t ≡ []) ⊎ (t ≢ [])
 empty_or [] = inl refl
 empty_or (x ∷ xs) = inr (λ e. cc)
 
--- ---- an unnamed answer comes from an unnamed contact if no new name is empty
+-- ---- what holds of the texts of a contact and of those in each entry holds of its answers
 
 pub accepted_all : (P : Mapping → Type 0) (h : List Mapping) → AllByRecursion P h → AllByRecursion P (accepted h)
 accepted_all P h all = all_filtered is_accepted P P (λ x p _. p) h all
 
-pub of_key_all : (P : Mapping → Type 0) (h : List Mapping) (k : Key) → AllByRecursion P h → AllByRecursion P (of_key h k)
-of_key_all P h k all = all_filtered (λ x. eq_by_cmp key_cmp k (key x)) P P (λ x p _. p) (accepted h) (accepted_all P h all)
+module _ (N E : Text → Type 0) where
+  abbrev pub Has : Contact → Type 0
+  Has c = N c.name × E c.email
 
--- what holds of the new fields of each entry, and of none, holds of those for a contact
-module _ (N E : Option Text → Type 0) (no_name : N None) (no_email : E None) where
-  last_all : (Q : Option Text → Type 0) → Q None → (f : Mapping → Option Text) (l : List Mapping) → AllByRecursion (λ x. Q (f x)) l → Q (last (filter_map f l))
-  last_all Q none f [] all = none
-  last_all Q none f (x ∷ xs) all = search (rules, last_all Q none f xs all.1)
+  abbrev pub Gives : Mapping → Type 0
+  Gives x = IfSome x.new_name N × IfSome x.new_email E × E x.old_email
 
-  abbrev IsSo : Mapping → Type 0
-  IsSo x = N x.new_name × E x.new_email
+  given_all : (Q : Text → Type 0) (f : Mapping → Option Text) (l : List Mapping) → AllByRecursion (λ x. IfSome (f x) Q) l → IfSome (last_given f l) Q
+  given_all Q f [] all = tt
+  given_all Q f (x ∷ xs) all = grind (arith, all.0, given_all Q f xs all.1)
 
-  pub fields_all : (h : List Mapping) (c : Contact) → AllByRecursion IsSo h → N (fields h c).name × E (fields h c).email
-  fields_all h c all = own (of_key h (own_key c)) (of_key_all IsSo h (own_key c) all)
-    where
-      plain : List Mapping
-      plain = of_key h (folded c.email, None)
+  first_all : (l : List Mapping) → AllByRecursion Gives l → IfSome (option_map (λ e. e.old_email) (first l)) E
+  first_all [] all = tt
+  first_all (x ∷ xs) all = all.0.2
 
-      own : (l : List Mapping) → AllByRecursion IsSo l → let f = unwrap_or (option_map new_fields (last l)) (given_fields h (folded c.email)) in N f.name × E f.email
-      own [] _ = (
-        last_all N no_name (λ x. x.new_name) plain (all_weaker plain (λ x p. p.0) (of_key_all IsSo h (folded c.email, None) all)),
-        last_all E no_email (λ x. x.new_email) plain (all_weaker plain (λ x p. p.1) (of_key_all IsSo h (folded c.email, None) all)),
-      )
-      own (x ∷ xs) all = all_last IsSo x xs all.0 all.1
+  fields_all : (l m : List Mapping) → AllByRecursion Gives l → AllByRecursion Gives m
+      → let f = unwrap_or (option_map new_fields (last l)) (record { name = last_given (λ e. e.new_name) m; email = last_given (λ e. e.new_email) m }) in IfSome f.name N × IfSome f.email E
+  fields_all [] m _ all = (given_all N (λ e. e.new_name) m (all_weaker m (λ x g. g.0) all), given_all E (λ e. e.new_email) m (all_weaker m (λ x g. g.1) all))
+  fields_all (x ∷ xs) m all _ = let g = all_last Gives x xs all.0 all.1 in (g.0, g.1)
 
-fields_named : (h : List Mapping) (c : Contact) → AllByRecursion HasNoEmptyName h → (fields h c).name ≢ Some []
-fields_named h c all = (fields_all (λ o. o ≢ Some []) (λ _. Unit {0}) (λ e. cc) tt h c (all_weaker h (λ x named. (named, tt)) all)).0
+  made_all : (c : Contact) (f : Fields) (kept : Option Text) → Has c → IfSome f.name N × IfSome f.email E → IfSome kept E → Has (made c f kept)
+  made_all c f kept has fits email = search rules
 
+  pub answers_all : (h : List Mapping) (c : Contact) → AllByRecursion Gives h → Has c → Has (answer_to h c) × Has (git_answer_to h c)
+  answers_all h c all has =
+      let picked : (p : Mapping → Bool) → AllByRecursion Gives (filter p (accepted h)) = λ p. all_filtered p Gives Gives (λ x g _. g) (accepted h) (accepted_all Gives h all) in
+      let fits = fields_all (of_key h (own_key c)) (of_key h (folded c.email, None)) (picked _) (picked _) in
+      (subst Has (sym (answer_is h c)) (made_all c (fields h c) (spelled h c) has fits (first_all (of_email h (folded c.email)) (picked _))), subst Has (sym (git_is h c)) (made_all c (fields h c) None has fits tt))
+
+-- so an unnamed answer comes from an unnamed contact if no new name is empty
 pub unnamed_contact : (h : List Mapping) (c : Contact) → AllByRecursion HasNoEmptyName h → (answer_to h c).name ≡ [] → c.name ≡ []
-unnamed_contact h c all empty = search (rules, fields_named)
+unnamed_contact h c all empty = (answers_all (λ n. n ≡ [] → c.name ≡ []) (λ _. Unit {0}) h c (all_weaker h (λ x named. search rules) all) (λ e. e, tt)).0.0 empty
 
 -- ---- git's answer without an email is this library's
 
@@ -198,6 +200,7 @@ module _ (h : List Mapping) (to : Contact) (t : TheTally) (a : Changes) (added :
 
 pub enough_is : (h : Histories) (to : Contact) (t : TheTally) (a : Changes) (added : List Mapping) → AreChangesBy to (folded t.email.now) added a
     → are_enough a h to t ≡ is_answered (plus h added) to (tally_of t).contact
+unfolding are_enough
 enough_is h to t a added changed =
     λ i. same_contact (sym (answers_after h.ours to t a added changed).0 i) to && same_contact (sym (answers_after h.gits to t a added changed).1 i) to
 
@@ -244,25 +247,24 @@ named_exact g to c d same fits =
 pub plain_exact : (h : List Mapping) (to c d : Contact) → folded d.email ≡ folded c.email → own_fields h d ≡ None → (to.name ≡ [] → (answer_to h d).name ≡ []) → IsAnswered (h ++ long_form to c ∷ []) to d
 plain_exact h to c d same none unnamed = search (rules, answer_is, plain_after)
 
-pub named_step : (g : List Mapping) (to c d : Contact) (s : Text) → spelled g d ≡ Some s → Fits to d → IsAnswered g to d → IsAnswered (g ++ named_form to c ∷ []) to d
-named_step g to c d s some fits before =
+pub named_step : (g : List Mapping) (to c d : Contact) → is_none (spelled g d) ≡ false → Fits to d → IsAnswered g to d → IsAnswered (g ++ named_form to c ∷ []) to d
+named_step g to c d some fits before =
     elim (eq_by_cmp key_cmp (own_key d) (own_key c)) as (λ b. eq_by_cmp key_cmp (own_key d) (own_key c) ≡ b → IsAnswered (g ++ named_form to c ∷ []) to d) [
       | true ↦ λ same. named_exact g to c d ((same_key (own_key d) (own_key c)).0 same) fits
       | false ↦ λ other. search (rules, parts_answer, parts_stay)
     ] refl
 
-pub spelled_more : (g xs : List Mapping) (email s : Text) → spelling g email ≡ Some s → spelling (g ++ xs) email ≡ Some s
-spelled_more g xs email s some = spelling_joined g xs email ∙ ap (λ o. option_or o (spelling xs email)) some
+spelled_more : (g xs : List Mapping) (email : Text) → is_none (spelling g email) ≡ false → is_none (spelling (g ++ xs) email) ≡ false
+spelled_more g xs email some = grind (arith, spelling_joined g xs email)
+
+own_spelled : (h : List Mapping) (c : Contact) → own_fields h c ≢ None → is_none (spelled h c) ≡ false
+own_spelled h c some = elim (spelled h c) as (λ o. spelled h c ≡ o → is_none o ≡ false) [ None ↦ λ none. absurd (some (no_own h c none)) | Some s ↦ λ _. refl ] refl
 
 -- ==== what entries for one old email change, kept by old names
 
 -- ---- one entry
 
--- no entry has an old name
-abbrev pub HasNoName : Changes → Type 0
-HasNoName a = (q : Folded) → contains folded_cmp a.names q ≡ false
-
-pub changes_plain : (to : Contact) (email : Text) (x : Mapping) (a : Changes) → IsPlain email x → HasNoName a → given_in a ≡ new_fields x → option_copied a.spelling ≡ Some x.old_email → AreChangesBy to email (x ∷ []) a
+pub changes_plain : (to : Contact) (email : Text) (x : Mapping) (a : Changes) → IsPlain email x → a.names.keys ≡ [] → given_in a ≡ new_fields x → option_copied a.spelling ≡ Some x.old_email → AreChangesBy to email (x ∷ []) a
 changes_plain to email x a plain unnamed given spelled = record {
   given = search (rules, one_of_key, last_of_one);
   owned = λ q. search (rules, none_of_key, never);
@@ -300,9 +302,10 @@ spelled_or o email = grind arith
 
 -- ==== the entries for one old email, and for any contacts, make all answers the one that is wanted
 
-pub all_true : {X : Type 0} (p : X → Bool) (P : X → Type 0) → ((x : X) → p x ≡ true → P x) → (xs : List X) → list_all p xs ≡ true → AllByRecursion P xs
-all_true p P f [] e = tt
-all_true p P f (x ∷ xs) e = let parts = and_parts (p x) (list_all p xs) e in (f x parts.0, all_true p P f xs parts.1)
+pub all_answered : (g : List Mapping) (to : Contact) (cs : List Contact) → are_answered (alike g) to cs ≡ true → AllByRecursion (IsAnswered g to) cs
+all_answered g to [] is = tt
+all_answered g to (c ∷ cs) is =
+    let parts = and_parts (is_answered (alike g) to c) (are_answered (alike g) to cs) is in ((answered_decides g to c).0 parts.0, all_answered g to cs parts.1)
 
 -- ---- what holds of the forms holds of the entries
 
@@ -310,6 +313,10 @@ module _ (P : Mapping → Type 0) (to : Contact) where
   -- the short form has a name, and is for the contact's email
   abbrev pub OfPlain : Contact → Type 0
   OfPlain c = (is_some (name_unless_empty to) ≡ true → folded to.email ≡ folded c.email → P (short_form to)) × P (long_form to c)
+
+  -- the form without an old name is only for a contact without an entry of its own
+  abbrev pub OfForms : Histories → Contact → Type 0
+  OfForms h c = (not (has_own_entry h c) ≡ true → OfPlain c) × P (named_form to c)
 
   pub each_plain : (h : Histories) (ps : List Contact) → AllByRecursion OfPlain ps → AllByRecursion P (plain_entries h to ps)
   each_plain h [] all = tt
@@ -319,118 +326,93 @@ module _ (P : Mapping → Type 0) (to : Contact) where
   each_named h [] all = tt
   each_named h (c ∷ cs) all = search (rules, each_named h cs all.1, each_named (plus h (named_form to c ∷ [])) cs all.1)
 
-  pub each_for_email : (h : Histories) (cs : List Contact) → AllByRecursion (λ c. (not (has_own_entry h c) ≡ true → OfPlain c) × P (named_form to c)) cs
-      → AllByRecursion P (entries_for_email h to cs)
+  pub each_for_email : (h : Histories) (cs : List Contact) → AllByRecursion (OfForms h) cs → AllByRecursion P (entries_for_email h to cs)
   each_for_email h cs all =
       let own : Contact → Bool = λ c. not (has_own_entry h c) in
       let plain = plain_entries h to (filter own cs) in
       all_append P plain (named_entries (plus h plain) to cs)
-      (each_plain h (filter own cs) (all_filtered own (λ c. (own c ≡ true → OfPlain c) × P (named_form to c)) OfPlain (λ c p out. p.0 out) cs all))
+      (each_plain h (filter own cs) (all_filtered own (OfForms h) OfPlain (λ c p out. p.0 out) cs all))
       (each_named (plus h plain) cs (all_weaker cs (λ c p. p.1) all))
 
-  pub each_entry : ((c : Contact) → OfPlain c × P (named_form to c)) → (h : Histories) (cs : List Contact) → AllByRecursion P (entries_to h to cs)
-  each_entry f h cs = search (rules, all_joined, all_of, each_for_email)
+-- what holds of the entries for each old email holds of all
+pub all_emails : (P : Mapping → Type 0) (h : Histories) (to : Contact) (cs : List Contact) → ((email : Text) → AllByRecursion P (entries_for_email h to (of_old_email email cs))) → AllByRecursion P (entries_to h to cs)
+all_emails P h to cs each = search (rules, all_joined, all_of)
 
--- ---- contacts with one old email
+-- the contacts of a list for an old email
+pub of_email_all : (P : Contact → Type 0) (cs : List Contact) (email : Text) → AllByRecursion P cs → AllByRecursion (λ c. (folded c.email ≡ email) × P c) (of_old_email email cs)
+of_email_all P cs email all = all_filtered (λ c. bytes_eq email (folded c.email)) P (λ c. (folded c.email ≡ email) × P c) (λ c p same. (sym (same_bytes email (folded c.email) same), p)) cs all
+
+pub each_entry : (P : Mapping → Type 0) (to : Contact) (h : Histories) (cs : List Contact) → AllByRecursion (OfForms P to h) cs → AllByRecursion P (entries_to h to cs)
+each_entry P to h cs all = all_emails P h to cs (λ email. each_for_email P to h (of_old_email email cs) (all_weaker (of_old_email email cs) (λ c p. p.1) (of_email_all (OfForms P to h) cs email all)))
+
+-- ---- forms with old names, for the contacts with one old email that need them
 
 -- if `to` is unnamed, so is the answer
 abbrev pub IsWanting : List Mapping → Contact → Contact → Type 0
 IsWanting h to c = to.name ≡ [] → (answer_to h c).name ≡ []
 
-none_own : (h : List Mapping) (c : Contact) → not (has_own_entry (alike h) c) ≡ true → own_fields h c ≡ None
+pub none_own : (h : List Mapping) (c : Contact) → not (has_own_entry (alike h) c) ≡ true → own_fields h c ≡ None
 none_own h c out = search rules
 
-moved : (to : Contact) (g xs ys : List Mapping) (d : Contact) → IsAnswered ((g ++ xs) ++ ys) to d → IsAnswered (g ++ (xs ++ ys)) to d
-moved to g xs ys d = subst (λ l. IsAnswered l to d) (append_assoc g xs ys)
+module _ (h : List Mapping) (to : Contact) (email : Text) (P : Mapping → Type 0) where
+  -- by these mappings the contact is answered by `to`, at least if it has no entry of its own
+  abbrev pub IsReady : List Mapping → Contact → Type 0
+  IsReady g c = (folded c.email ≡ email) × Fits to c × (own_fields h c ≡ None → IsAnswered g to c) × (own_fields h c ≢ None → P (named_form to c))
 
-module _ (to : Contact) where
-  named_keep : (cs : List Contact) (g : List Mapping) (d : Contact) (s : Text) → spelled g d ≡ Some s → Fits to d → IsAnswered g to d → IsAnswered (g ++ named_entries (alike g) to cs) to d
-  named_keep [] g d s some fits before = subst (λ l. IsAnswered l to d) (sym (append-nil g)) before
-  named_keep (c ∷ cs) g d s some fits before =
-      elim (is_answered (alike g) to c) as (λ b. IsAnswered (g ++ (if b then named_entries (alike g) to cs else named_form to c ∷ named_entries (alike (g ++ named_form to c ∷ [])) to cs)) to d) [
-        | true ↦ named_keep cs g d s some fits before
-        | false ↦ moved to g (named_form to c ∷ []) (named_entries (alike (g ++ named_form to c ∷ [])) to cs) d
-            (named_keep cs (g ++ named_form to c ∷ []) d s (spelled_more g (named_form to c ∷ []) (folded d.email) s some) fits (named_step g to c d s some fits before))
-      ]
+  abbrev IsDone : List Mapping → Contact → Type 0
+  IsDone g c = (folded c.email ≡ email) × Fits to c × IsAnswered g to c
 
-  named_none : (g : List Mapping) (cs : List Contact) → AllByRecursion (IsAnswered g to) cs → named_entries (alike g) to cs ≡ []
-  named_none g [] all = refl
-  named_none g (c ∷ cs) all = search (rules, named_none g cs all.1)
+  named_all : (cs done : List Contact) (g : List Mapping) → (is_none (spelling h email) ≡ false → is_none (spelling g email) ≡ false) → AllByRecursion (IsReady g) cs → AllByRecursion (IsDone g) done
+      → let es = named_entries (alike g) to cs in AllByRecursion (IsDone (g ++ es)) done × AllByRecursion (IsDone (g ++ es)) cs × AllByRecursion P es
+  named_all [] done g known ready all = (subst (λ l. AllByRecursion (IsDone l) done) (sym (append-nil g)) all, tt, tt)
+  named_all (c ∷ cs) done g known ready all =
+      let is : folded c.email ≡ email = ready.0.0 in
+      elim (is_answered (alike g) to c) as (λ b. is_answered (alike g) to c ≡ b
+      → let es = if b then named_entries (alike g) to cs else named_form to c ∷ named_entries (alike (g ++ named_form to c ∷ [])) to cs in
+      AllByRecursion (IsDone (g ++ es)) done × AllByRecursion (IsDone (g ++ es)) (c ∷ cs) × AllByRecursion P es) [
+        | true ↦ λ yes. let rest = named_all cs (c ∷ done) g known ready.1 ((is, ready.0.1, (answered_decides g to c).0 yes), all) in (rest.0.1, (rest.0.0, rest.1), rest.2)
+        | false ↦ λ out.
+            let own : own_fields h c ≢ None = λ none. true≢false (sym ((answered_decides g to c).1 (ready.0.2 none)) ∙ out) in
+            let spells = known (ap (λ e. is_none (spelling h e)) (sym is) ∙ own_spelled h c own) in
+            let stays : (d : Contact) → folded d.email ≡ email → Fits to d → IsAnswered g to d → IsAnswered (g ++ named_form to c ∷ []) to d = λ d same. named_step g to c d (ap (λ e. is_none (spelling g e)) same ∙ spells) in
+            let rest = named_all cs (c ∷ done) (g ++ named_form to c ∷ []) (λ _. spelled_more g (named_form to c ∷ []) email spells)
+            (all_weaker cs (λ d r. (r.0, r.1, (λ none. stays d r.0 r.1 (r.2 none)), r.3)) ready.1)
+            ((is, ready.0.1, named_exact g to c c refl ready.0.1), all_weaker done (λ d r. (r.0, r.1, stays d r.0 r.1 r.2)) all) in
+            let whole = subst (λ l. AllByRecursion (IsDone l) (c ∷ done) × AllByRecursion (IsDone l) cs) (append_assoc g (named_form to c ∷ []) (named_entries (alike (g ++ named_form to c ∷ [])) to cs)) (rest.0, rest.1) in
+            (whole.0.1, (whole.0.0, whole.1), (ready.0.3 own, rest.2))
+      ] refl
 
-  module _ (email : Text) where
-    named_all : (cs : List Contact) (g : List Mapping) (s : Text) → spelling g email ≡ Some s → AllByRecursion (λ c. (folded c.email ≡ email) × Fits to c) cs → AllByRecursion (IsAnswered (g ++ named_entries (alike g) to cs) to) cs
-    named_all [] g s some all = tt
-    named_all (c ∷ cs) g s some all =
-        let of_c : spelled g c ≡ Some s = ap (spelling g) all.0.0 ∙ some in
-        elim (is_answered (alike g) to c) as (λ b. is_answered (alike g) to c ≡ b
-        → AllByRecursion (IsAnswered (g ++ (if b then named_entries (alike g) to cs else named_form to c ∷ named_entries (alike (g ++ named_form to c ∷ [])) to cs)) to) (c ∷ cs)) [
-          | true ↦ λ yes. (named_keep cs g c s of_c all.0.1 ((answered_decides g to c).0 yes), named_all cs g s some all.1)
-          | false ↦ λ _.
-              let more = g ++ named_form to c ∷ [] in
-              let rest = named_entries (alike more) to cs in (
-                moved to g (named_form to c ∷ []) rest c (named_keep cs more c s (spelled_more g (named_form to c ∷ []) (folded c.email) s of_c) all.0.1 (named_exact g to c c refl all.0.1)),
-                all_weaker cs (λ d. moved to g (named_form to c ∷ []) rest d) (named_all cs more s (spelled_more g (named_form to c ∷ []) email s some) all.1),
-              )
-        ] refl
+-- what the form without an old name, and that with one, have to be for a contact if they are needed
+abbrev pub OfNeeded : (Mapping → Type 0) → Contact → List Mapping → Contact → Type 0
+OfNeeded P to h c = OfPlain P to c × (own_fields h c ≢ None → P (named_form to c))
 
-    -- what holds of the forms for contacts that aren't answered yet
-    named_needed : (P : Mapping → Type 0) (cs : List Contact) (g : List Mapping) (s : Text) → spelling g email ≡ Some s
-        → AllByRecursion (λ c. (folded c.email ≡ email) × Fits to c × ((IsAnswered g to c → ⊥) → P (named_form to c))) cs → AllByRecursion P (named_entries (alike g) to cs)
-    named_needed P [] g s some all = tt
-    named_needed P (c ∷ cs) g s some all =
-        let rest = named_needed P cs (g ++ named_form to c ∷ []) s (spelled_more g (named_form to c ∷ []) email s some)
-        (all_weaker cs (λ d p. (p.0, p.1, λ out. p.2 (λ answered. out (named_step g to c d s (ap (spelling g) p.0 ∙ some) p.1 answered)))) all.1) in
-        search (rules, named_needed P cs g s some all.1, answered_decides g to c, all.0.2, true≢false, rest)
-
-module _ (h : List Mapping) (named : AllByRecursion HasNoEmptyName h) (to : Contact) (email : Text) (cs : List Contact) (all : AllByRecursion (λ c. (folded c.email ≡ email) × IsWanting h to c) cs) where
-  abbrev own : Contact → Bool
-  own c = not (has_own_entry (alike h) c)
-
-  abbrev g : List Mapping
-  g = h ++ plain_entries (alike h) to (filter own cs)
-
-  plain_all : (ps : List Contact) → AllByRecursion (λ c. (folded c.email ≡ email) × IsWanting h to c × (own_fields h c ≡ None)) ps → AllByRecursion (IsAnswered (h ++ plain_entries (alike h) to ps) to) ps
-  plain_all [] all = tt
-  plain_all (c ∷ cs) all =
+module _ (h : List Mapping) (named : AllByRecursion HasNoEmptyName h) (to : Contact) where
+  plain_all : (email : Text) (ps : List Contact) → AllByRecursion (λ c. ((folded c.email ≡ email) × IsWanting h to c) × (own_fields h c ≡ None)) ps → AllByRecursion (IsAnswered (h ++ plain_entries (alike h) to ps) to) ps
+  plain_all email [] all = tt
+  plain_all email (c ∷ cs) all =
       elim (are_answered (alike h) to (c ∷ cs)) as (λ b. are_answered (alike h) to (c ∷ cs) ≡ b → AllByRecursion (IsAnswered (h ++ (if b then [] else (if is_short_enough (alike h) to c cs then short_form to else long_form to c) ∷ [])) to) (c ∷ cs)) [
-        | true ↦ λ yes. subst (λ l. AllByRecursion (IsAnswered l to) (c ∷ cs)) (sym (append-nil h)) (all_true (is_answered (alike h) to) (IsAnswered h to) (λ d. (answered_decides h to d).0) (c ∷ cs) yes)
+        | true ↦ λ yes. subst (λ l. AllByRecursion (IsAnswered l to) (c ∷ cs)) (sym (append-nil h)) (all_answered h to (c ∷ cs) yes)
         | false ↦ λ _. elim (is_short_enough (alike h) to c cs) as (λ b. is_short_enough (alike h) to c cs ≡ b → AllByRecursion (IsAnswered (h ++ (if b then short_form to else long_form to c) ∷ []) to) (c ∷ cs)) [
-          | true ↦ λ enough. all_true (is_answered (alike (h ++ short_form to ∷ [])) to) (IsAnswered (h ++ short_form to ∷ []) to) (λ d. (answered_decides (h ++ short_form to ∷ []) to d).0) (c ∷ cs)
-              (and_parts (is_some (name_unless_empty to) && bytes_eq (folded to.email) (folded c.email)) (are_answered (plus (alike h) (short_form to ∷ [])) to (c ∷ cs)) enough).1
-          | false ↦ λ _. all_weaker (c ∷ cs) (λ d p. plain_exact h to c d (p.0 ∙ sym (all.0).0) p.2 p.1) all
+          | true ↦ λ enough. all_answered (h ++ short_form to ∷ []) to (c ∷ cs) (and_parts (is_some (name_unless_empty to) && bytes_eq (folded to.email) (folded c.email)) (are_answered (plus (alike h) (short_form to ∷ [])) to (c ∷ cs)) enough).1
+          | false ↦ λ _. all_weaker (c ∷ cs) (λ d p. plain_exact h to c d (p.0.0 ∙ sym (all.0).0.0) p.1 p.0.1) all
         ] refl
       ] refl
 
-  unowned_answered : AllByRecursion (λ c. own_fields h c ≡ None → IsAnswered g to c) cs
-  unowned_answered = all_weaker cs (λ c f none. f (ap (λ o. not (is_some o || is_some o)) none)) (all_unfiltered own (IsAnswered g to) cs (plain_all (filter own cs)
-      (all_filtered own (λ c. (folded c.email ≡ email) × IsWanting h to c) (λ c. (folded c.email ≡ email) × IsWanting h to c × (own_fields h c ≡ None)) (λ c p out. (p.0, p.1, none_own h c out)) cs all)))
-
-  fits : (c : Contact) → IsWanting h to c → Fits to c
-  fits c wanting e = unnamed_contact h c named (wanting e)
-
-  -- if no entry spells the email yet, none is a contact's own
-  settled : ((s : Text) × (spelling g email ≡ Some s)) ⊎ AllByRecursion (IsAnswered g to) cs
-  settled = by (spelling h email) refl
-    where
-      by : (o : Option Text) → spelling h email ≡ o → ((s : Text) × (spelling g email ≡ Some s)) ⊎ AllByRecursion (IsAnswered g to) cs
-      by (Some s) some = inl (s, spelled_more h (plain_entries (alike h) to (filter own cs)) email s some)
-      by None none = inr (all_apply (λ c. (folded c.email ≡ email) × IsWanting h to c) (λ c. own_fields h c ≡ None → IsAnswered g to c) (IsAnswered g to)
-          (λ c p f. f (no_own h c (ap (spelling h) p.0 ∙ none))) cs all unowned_answered)
-
-  pub email_all : AllByRecursion (IsAnswered (h ++ entries_for_email (alike h) to cs) to) cs
-  email_all = all_weaker cs (λ d. moved to h (plain_entries (alike h) to (filter own cs)) (named_entries (alike g) to cs) d) (⊎_elim
-      (λ known. named_all to email cs g known.0 known.1 (all_weaker cs (λ c p. (p.0, fits c p.1)) all))
-      (λ answered. subst (λ l. AllByRecursion (IsAnswered l to) cs) (sym (append-nil g) ∙ ap (λ l. g ++ l) (sym (named_none to g cs answered))) answered) settled)
-
-  -- a form with an old name is only for a contact with entries of its own
-  pub email_needed : (P : Mapping → Type 0) → AllByRecursion (OfPlain P to) cs → AllByRecursion (λ c. own_fields h c ≢ None → P (named_form to c)) cs → AllByRecursion P (entries_for_email (alike h) to cs)
-  email_needed P plain owned = all_append P (plain_entries (alike h) to (filter own cs)) (named_entries (alike g) to cs)
-      (each_plain P to (alike h) (filter own cs) (all_filtered own (OfPlain P to) (OfPlain P to) (λ c p _. p) cs plain)) (⊎_elim
-      (λ known. named_needed to email P cs g known.0 known.1 (all_apply (λ c. (folded c.email ≡ email) × IsWanting h to c) (λ c. (IsAnswered g to c → ⊥) → P (named_form to c))
-      (λ c. (folded c.email ≡ email) × Fits to c × ((IsAnswered g to c → ⊥) → P (named_form to c))) (λ c p f. (p.0, fits c p.1, f)) cs all
-      (all_apply (λ c. own_fields h c ≡ None → IsAnswered g to c) (λ c. own_fields h c ≢ None → P (named_form to c)) (λ c. (IsAnswered g to c → ⊥) → P (named_form to c))
-      (λ c f p out. p (λ none. out (f none))) cs unowned_answered owned)))
-      (λ answered. subst (AllByRecursion P) (sym (named_none to g cs answered)) tt) settled)
+  -- all contacts for an old email are answered, and the entries are what they have to be
+  pub email_all : (P : Mapping → Type 0) (email : Text) (cs : List Contact) → AllByRecursion (λ c. (folded c.email ≡ email) × IsWanting h to c × OfNeeded P to h c) cs
+      → let es = entries_for_email (alike h) to cs in AllByRecursion (IsAnswered (h ++ es) to) cs × AllByRecursion P es
+  email_all P email cs all =
+      let own : Contact → Bool = λ c. not (has_own_entry (alike h) c) in
+      let Wants : Contact → Type 0 = λ c. (folded c.email ≡ email) × IsWanting h to c × OfNeeded P to h c in
+      let plain = plain_entries (alike h) to (filter own cs) in
+      let answered = all_unfiltered own (IsAnswered (h ++ plain) to) cs (plain_all email (filter own cs)
+      (all_filtered own Wants (λ c. ((folded c.email ≡ email) × IsWanting h to c) × (own_fields h c ≡ None)) (λ c p out. ((p.0, p.1), none_own h c out)) cs all)) in
+      let done = named_all h to email P cs [] (h ++ plain) (spelled_more h plain email)
+      (all_apply Wants (λ c. own c ≡ true → IsAnswered (h ++ plain) to c) (IsReady h to email P (h ++ plain))
+      (λ c p f. (p.0, (λ e. unnamed_contact h c named (p.1 e)), (λ none. f (ap (λ o. not (is_some o || is_some o)) none)), (p.2).1)) cs all answered) tt in (
+        subst (λ l. AllByRecursion (IsAnswered l to) cs) (append_assoc h plain (named_entries (alike (h ++ plain)) to cs)) (all_weaker cs (λ c d. d.2) done.1),
+        all_append P plain (named_entries (alike (h ++ plain)) to cs) (each_plain P to (alike h) (filter own cs) (all_filtered own Wants (OfPlain P to) (λ c p _. (p.2).0) cs all)) done.2,
+      )
 
 -- ==== which contacts an entry for a contact can affect
 
@@ -450,31 +432,16 @@ linked_email h b c l =
 pub linked_name : (h : List Mapping) (b c : Contact) → own_key b ≡ own_key c → folded (answer_to h b).name ≡ folded (answer_to h c).name
 linked_name h b c keys = search rules
 
--- the entry is for a contact b
-pub record Concerns (h : List Mapping) (In : Contact → Type 0) (x : Mapping) : Type 0 where
-  pub b : Contact
-  pub is_in : In b
-  pub emails : folded x.old_email ≡ folded b.email
-  pub names : ((x.old_name ≡ None) × (own_fields h b ≡ None)) ⊎ (key x ≡ own_key b)
+-- an entry for b affects only contacts that are linked to it
+affected_linked : (h : List Mapping) (b c : Contact) (x : Mapping) → folded x.old_email ≡ folded b.email → ((x.old_name ≡ None) × (own_fields h b ≡ None)) ⊎ (key x ≡ own_key b) → affects h c x ≡ true → Linked h b c
+affected_linked h b c x emails names is = search (rules, same_text, no_own)
 
-module _ (h : List Mapping) (In : Contact → Type 0) where
-  email_concern : (to : Contact) (cs : List Contact) → AllByRecursion In cs → AllByRecursion (Concerns h In) (entries_for_email (alike h) to cs)
-  email_concern to cs all = each_for_email (Concerns h In) to (alike h) cs (all_weaker cs (λ c is. (
-    λ out. (
-      λ _ same. record { b = c; is_in = is; emails = same; names = inl (refl, none_own h c out) },
-      record { b = c; is_in = is; emails = refl; names = inl (refl, none_own h c out) },
-    ),
-    record { b = c; is_in = is; emails = refl; names = inr refl },
-  )) all)
-
-  pub entries_concern : (to : Contact) (cs : List Contact) → AllByRecursion In cs → AllByRecursion (Concerns h In) (entries_to (alike h) to cs)
-  entries_concern to cs all = all_joined (Concerns h In) (λ email. entries_for_email (alike h) to (of_old_email email cs)) (distinct (map (λ c. folded c.email) cs))
-      (all_of (λ email. AllByRecursion (Concerns h In) (entries_for_email (alike h) to (of_old_email email cs)))
-      (λ email. email_concern to (of_old_email email cs) (all_filtered (λ c. bytes_eq email (folded c.email)) In In (λ c is _. is) cs all)) (distinct (map (λ c. folded c.email) cs)))
-
-  -- such an entry affects only contacts that are linked to b
-  pub affected_linked : (x : Mapping) (c : Contact) (concern : Concerns h In x) → affects h c x ≡ true → Linked h concern.b c
-  affected_linked x c concern is = search (rules, same_text, no_own)
+-- so what holds of these contacts holds if a form for b affects c
+pub forms_linked : (h : List Mapping) (to b c : Contact) (Q : Type 0) → (Linked h b c → Q) → OfForms (λ x. affects h c x ≡ true → Q) to (alike h) b
+forms_linked h to b c Q f = (
+  λ out. ((λ _ same is. f (affected_linked h b c (short_form to) same (inl (refl, none_own h b out)) is)), λ is. f (affected_linked h b c (long_form to b) refl (inl (refl, none_own h b out)) is)),
+  λ is. f (affected_linked h b c (named_form to b) refl (inr refl) is),
+)
 
 -- ==== the entries for any contacts make all their answers the one that is wanted
 
@@ -493,34 +460,20 @@ module _ (h : List Mapping) (c : Contact) (part : Text → List Mapping) (own : 
         y.1 ∙ ap (λ l. git_answer_to (h ++ l) c) same ∙ sym x.1 ∙ before.1,
       )
 
-module _ (cs : List Contact) where
-  -- of a contact for an old email
-  pub of_email_all : (P : Contact → Type 0) (email : Text) → AllByRecursion P cs → AllByRecursion (λ c. (folded c.email ≡ email) × P c) (of_old_email email cs)
-  of_email_all P email all = all_filtered (λ c. bytes_eq email (folded c.email)) P (λ c. (folded c.email ≡ email) × P c) (λ c p same. (sym (same_bytes email (folded c.email) same), p)) cs all
+-- all contacts are answered, and the entries are what they have to be
+pub entries_all : (h : List Mapping) → AllByRecursion HasNoEmptyName h → (to : Contact) (P : Mapping → Type 0) (cs : List Contact) → AllByRecursion (λ c. IsWanting h to c × OfNeeded P to h c) cs
+    → AllByRecursion (IsAnswered (h ++ entries_to (alike h) to cs) to) cs × AllByRecursion P (entries_to (alike h) to cs)
+entries_all h named to P cs all = (each (IsAnswered (h ++ entries_to (alike h) to cs) to) cs answered, all_emails P (alike h) to cs (λ t. (of_email t).1))
+  where
+    part : Text → List Mapping
+    part t = entries_for_email (alike h) to (of_old_email t cs)
 
-  pub entries_all : (h : List Mapping) → AllByRecursion HasNoEmptyName h → (to : Contact) → AllByRecursion (IsWanting h to) cs → AllByRecursion (IsAnswered (h ++ entries_to (alike h) to cs) to) cs
-  entries_all h named to all = each (IsAnswered (h ++ entries_to (alike h) to cs) to) cs (λ c i.
-      let part : Text → List Mapping = λ email. entries_for_email (alike h) to (of_old_email email cs) in
-      let email = folded c.email in
-      let ones = of_old_email email cs in
-      let Of : Text → Contact → Type 0 = λ t d. (folded d.email ≡ t) × IsWanting h to d in
-      answered_by_own h c part email
-      (λ t. all_weaker (part t) (λ x concern affected. sym (concern.is_in).0 ∙ (affected_linked h (Of t) x c concern affected).emails)
-      (email_concern h (Of t) to (of_old_email t cs) (of_email_all (IsWanting h to) t all)))
-      to (map (λ c. folded c.email) cs) (at (λ c. list_any (bytes_eq (folded c.email)) (map (λ c. folded c.email) cs) ≡ true) cs (all_among (λ c. folded c.email) cs) c i)
-      (at (IsAnswered (h ++ part email) to) ones (email_all h named to email ones (of_email_all (IsWanting h to) email all))
-      c (in_filter (λ c. bytes_eq email (folded c.email)) cs c i (equal_bytes email email refl))))
+    of_email : (t : Text) → AllByRecursion (IsAnswered (h ++ part t) to) (of_old_email t cs) × AllByRecursion P (part t)
+    of_email t = email_all h named to P t (of_old_email t cs) (all_weaker _ (λ c p. (p.0, (p.1).0, (p.1).1)) (of_email_all (λ c. IsWanting h to c × OfNeeded P to h c) cs t all))
 
--- ==== what one appended entry changes, and what it doesn't
-
-pub named_other : (h : List Mapping) (x : Mapping) (c : Contact) → IsSome x.old_name → (key x ≡ own_key c → ⊥) → (folded x.old_email ≡ folded c.email → IsSome (spelling h (folded c.email))) → Stays h (x ∷ []) c
-named_other h x c named other spells = search (rules, parts_answer, parts_stay, same_key, same_text)
-
-pub plain_other : (h : List Mapping) (x : Mapping) (c : Contact) → x.old_name ≡ None → (folded x.old_email ≡ folded c.email → IsSome (own_fields h c)) → Stays h (x ∷ []) c
-plain_other h x c unnamed owns = search (rules, parts_answer, parts_stay, same_key, same_text, no_own)
-
-pub exact_named : (h : List Mapping) (c : Contact) (name email old_name old_email : Text) → folded old_name ≡ folded c.name → folded old_email ≡ folded c.email → IsAnswered (h ++ mapping (Some name) (Some email) (Some old_name) old_email ∷ []) (record { name = name; email = email }) c
-exact_named h c name email old_name old_email names emails = search (rules, answer_is, named_after)
-
-pub exact_plain : (h : List Mapping) (c : Contact) (name email old_email : Text) → own_fields h c ≡ None → folded old_email ≡ folded c.email → IsAnswered (h ++ mapping (Some name) (Some email) None old_email ∷ []) (record { name = name; email = email }) c
-exact_plain h c name email old_email none emails = search (rules, answer_is, plain_after)
+    answered : (c : Contact) → c ∈ cs → IsAnswered (h ++ entries_to (alike h) to cs) to c
+    answered c i = answered_by_own h c part (folded c.email)
+        (λ t. each_for_email (λ x. affects h c x ≡ true → t ≡ folded c.email) to (alike h) (of_old_email t cs)
+        (all_weaker (of_old_email t cs) (λ b p. forms_linked h to b c (t ≡ folded c.email) (λ l. sym p.0 ∙ l.emails)) (of_email_all (λ c. IsWanting h to c × OfNeeded P to h c) cs t all)))
+        to (map (λ c. folded c.email) cs) (at (λ c. list_any (bytes_eq (folded c.email)) (map (λ c. folded c.email) cs) ≡ true) cs (all_among (λ c. folded c.email) cs) c i)
+        (at (IsAnswered (h ++ part (folded c.email)) to) (of_old_email (folded c.email) cs) (of_email (folded c.email)).0 c (in_filter (λ d. bytes_eq (folded c.email) (folded d.email)) cs c i (equal_bytes (folded c.email) (folded c.email) refl)))

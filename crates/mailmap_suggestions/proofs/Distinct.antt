@@ -1,10 +1,9 @@
 -- Distinct texts, and lists that are joined from a part for each.
-use Rattle.std.proofs.Common.{arith, ◌≡◌, ◌≢◌, Bool, true, false, true≢false, not, ◌&&◌, List, [], ◌∷◌, ◌++◌, map, filter, append-nil, bytes_eq, refl, sym, ap, ◌∙◌, rules, ◌⊎◌, inl, inr, subst, ⊎_elim}
+use Rattle.std.proofs.Common.{◌≡◌, ◌≢◌, Bool, true, false, true≢false, not, List, [], ◌∷◌, ◌++◌, map, filter, append-nil, bytes_eq, refl, sym, ap, ◌∙◌, rules, ◌⊎◌, inl, inr, subst, ⊎_elim}
 use Rattle.std.specs.List.{AllByRecursion, flat_map, list_any}
 use Rattle.std.proofs.lemmas.List.Elements.{filter-append}
 use Rattle.mailmap_entries.specs.Folding.{Text}
-use Rattle.mailmap_entries.proofs.Joined.{filter_none}
-use Rattle.mailmap_entries.proofs.Parts.{all_append, all_weaker, filter-filter}
+use Rattle.mailmap_entries.proofs.Parts.{all_append, all_weaker}
 use Rattle.mailmap_suggestions.specs.Forms.{distinct}
 use Rattle.mailmap_contacts.proofs.Steps.{all_filtered, all_unfiltered}
 use lib.Pointwise.{bytes_decides}
@@ -15,26 +14,11 @@ same_bytes a b = (bytes_decides a b).0
 pub equal_bytes : (a b : Text) → a ≡ b → bytes_eq a b ≡ true
 equal_bytes a b = (bytes_decides a b).1
 
-not_itself : (b : Bool) → (not b && b) ≡ false
-not_itself b = grind arith
-
 pub all_of : {X : Type 0} (P : X → Type 0) → ((x : X) → P x) → (xs : List X) → AllByRecursion P xs
 all_of P f [] = tt
 all_of P f (x ∷ xs) = (f x, all_of P f xs)
 
--- ---- each distinct text occurs once
-
-once_more : (k x : Text) (ds : List Text) → bytes_eq k x ≡ true → filter (bytes_eq k) (filter (λ y. not (bytes_eq x y)) ds) ≡ []
-once_more k x ds same = filter-filter (bytes_eq k) (λ y. not (bytes_eq x y)) ds
-    ∙ filter_none (λ y. not (bytes_eq x y) && bytes_eq k y) ds (all_of (λ y. (not (bytes_eq x y) && bytes_eq k y) ≡ false)
-    (λ y. ap (λ t. not (bytes_eq t y) && bytes_eq k y) (sym (same_bytes k x same)) ∙ not_itself (bytes_eq k y)) ds)
-
-pub others_stay : (k x : Text) (ds : List Text) → bytes_eq k x ≡ false → filter (bytes_eq k) (filter (λ y. not (bytes_eq x y)) ds) ≡ filter (bytes_eq k) ds
-others_stay k x ds other = search (rules, filter-filter)
-
-pub once : (k : Text) (xs : List Text) → list_any (bytes_eq k) xs ≡ true → filter (bytes_eq k) (distinct xs) ≡ k ∷ []
-once k [] e = absurd (true≢false (sym e))
-once k (x ∷ xs) e = search (rules, once k xs, once_more, others_stay)
+-- ---- distinct texts
 
 pub all_distinct : (P : Text → Type 0) (xs : List Text) → AllByRecursion P xs → AllByRecursion P (distinct xs)
 all_distinct P [] all = tt
@@ -51,15 +35,22 @@ pub filter_joined : {X Y : Type 0} (p : Y → Bool) (part : X → List Y) (xs : 
 filter_joined p part [] = refl
 filter_joined p part (x ∷ xs) = filter-append p (part x) (flat_map part xs) ∙ ap (λ l. filter p (part x) ++ l) (filter_joined p part xs)
 
-one_part : {Y : Type 0} (part : Text → List Y) (k : Text) → ((j : Text) → bytes_eq k j ≡ false → part j ≡ []) → (xs : List Text) → flat_map part xs ≡ flat_map part (filter (bytes_eq k) xs)
-one_part part k none [] = refl
-one_part part k none (x ∷ xs) = search (rules, one_part part k none xs)
+-- a part that is empty can be left out
+left_out : {Y : Type 0} (part : Text → List Y) (x : Text) → part x ≡ [] → (ys : List Text) → flat_map part (filter (λ y. not (bytes_eq x y)) ys) ≡ flat_map part ys
+left_out part x none [] = refl
+left_out part x none (y ∷ ys) = search (rules, left_out part x none ys, same_bytes)
+
+no_others : {Y : Type 0} (part : Text → List Y) (k : Text) → ((j : Text) → bytes_eq k j ≡ false → part j ≡ []) → (ys : List Text) → flat_map part (filter (λ y. not (bytes_eq k y)) ys) ≡ []
+no_others part k none [] = refl
+no_others part k none (y ∷ ys) = search (rules, no_others part k none ys)
+
+one_part : {Y : Type 0} (part : Text → List Y) (k : Text) → ((j : Text) → bytes_eq k j ≡ false → part j ≡ []) → (xs : List Text) → list_any (bytes_eq k) xs ≡ true → flat_map part (distinct xs) ≡ part k
+one_part part k none [] e = absurd (true≢false (sym e))
+one_part part k none (x ∷ xs) e = search (rules, one_part part k none xs, left_out, no_others, same_bytes, append-nil)
 
 -- what a filter keeps of the joined parts for distinct texts, if it keeps nothing of all but one
 pub kept_part : {Y : Type 0} (p : Y → Bool) (part : Text → List Y) (k : Text) (xs : List Text) → list_any (bytes_eq k) xs ≡ true → ((j : Text) → bytes_eq k j ≡ false → filter p (part j) ≡ []) → filter p (flat_map part (distinct xs)) ≡ filter p (part k)
-kept_part p part k xs among none = filter_joined p part (distinct xs)
-    ∙ one_part (λ j. filter p (part j)) k none (distinct xs) ∙ ap (flat_map (λ j. filter p (part j))) (once k xs among)
-    ∙ append-nil (filter p (part k))
+kept_part p part k xs among none = filter_joined p part (distinct xs) ∙ one_part (λ j. filter p (part j)) k none xs among
 
 pub no_part : {X Y : Type 0} (part : X → List Y) (xs : List X) → AllByRecursion (λ x. part x ≡ []) xs → flat_map part xs ≡ []
 no_part part [] all = refl

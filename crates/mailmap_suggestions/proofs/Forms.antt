@@ -1,9 +1,9 @@
 -- Groups, their counted answers and what is suggested for them, as the code makes these.
-use Rattle.std.proofs.Common.{◌≡◌, ◌∙◌, ◌+◌, ◌<◌, ◌++◌, ◌&&◌, ℕ, drop, get_or, length, Bool, false, true, not, List, [], ◌∷◌, append-nil, bytes_eq, append_assoc, ap, filter, flat_map, if◌then◌else◌, is_some, map, None, Some, refl, rules, sym, subst, Option, ◌≢◌, ◌||◌, true≢false, cond, unwrap_or, Ordering, Less, Equal, Greater, arith, take, Bor, option_map}
+use Rattle.std.proofs.Common.{◌≡◌, ◌∙◌, ◌+◌, ◌<◌, ◌++◌, ◌&&◌, ℕ, drop, get_or, length, Bool, false, true, not, List, [], ◌∷◌, append-nil, bytes_eq, append_assoc, ap, filter, flat_map, if◌then◌else◌, is_some, map, None, Some, refl, rules, sym, subst, Option, ◌≢◌, ◌||◌, true≢false, cond, unwrap_or, Ordering, Less, Equal, Greater, arith, Bor, option_map, IfSome, MatchOption}
 use Rattle.std.specs.Global.{Vec}
 use Rattle.std.specs.List.{All, AllByRecursion, list_all, slice_get, filter_map, list_any, IsDistinct}
 use Rattle.std.proofs.lemmas.Bool.{and_parts, or_right}
-use Rattle.std.proofs.lemmas.List.{at_drop_more, map-append, length-map, length-take-le}
+use Rattle.std.proofs.lemmas.List.{at_drop_more, map-append}
 use Rattle.std.proofs.lemmas.List.Elements.{All-from_recursion, filter-append, filter_agree}
 use Rattle.std.proofs.lemmas.List.Folds.{flat_map-map, list_all-map}
 use Rattle.std.proofs.lemmas.Grind.{flat_map-append}
@@ -14,8 +14,8 @@ use Rattle.mailmap_entries.proofs.Parts.{filter-map, all_map, all_mapped, all_we
 use Rattle.mailmap_contacts.specs.Answers.{tally_of, folded_cmp, tally_at}
 use Rattle.mailmap_contacts.specs.Contacts.{Contact, Tally, answer_to, AreTallies, tallied}
 use Rattle.contact_counter.specs.declared.tallies.Tally.{Tally as TheTally}
-use Rattle.mailmap_contacts.proofs.Steps.{all_filtered, HasOnly, NoneBefore, mapped_more}
-use Rattle.mailmap_suggestions.specs.Private.{AreChangesBy, HaveEmail, IsPlain, are_enough, contacts_of, tallies_in, HasMembers, grouped, has_key, keyed_by, keyed_of, keys, members, text_of}
+use Rattle.mailmap_contacts.proofs.Steps.{all_filtered, HasOnly, NoneBefore}
+use Rattle.mailmap_suggestions.specs.Private.{AreChangesBy, HaveEmail, HaveOneEmail, listed, IsPart, IsPlain, are_enough, contacts_of, tallies_in, HasMembers, grouped, has_key, keyed_by, keyed_of, keys, members, text_of}
 use Rattle.mailmap_suggestions.specs.Forms.{Histories, are_answered, distinct, entries_for_email, entries_to, fits, has_own_entry, is_answered, long_form, name_unless_empty, named_entries, named_form, of_old_email, plain_entries, plus, short_form}
 use Rattle.mailmap_suggestions.specs.GroupEntries.{are_alike, contacts, group_entries, proper_answer, shared_texts, sharers, contact_or_nobody, nobody}
 use Rattle.mailmap_suggestions.specs.declared.changes.Changes.{Changes}
@@ -24,7 +24,7 @@ use Rattle.mailmap_suggestions.proofs.Appended.{OfPlain, each_plain, each_for_em
 use Rattle.mailmap_entries.specs.Semantics.{is_accepted, accepted}
 use Rattle.mailmap_findings.proofs.Readings.{located_accepted}
 use Rattle.mailmap_findings.proofs.Read.{mappings_of-located_lines}
-use Rattle.mailmap_findings.specs.Git.{entry_of_first, entry_of_text, git_entries, part_entry, parts, GitContact}
+use Rattle.mailmap_findings.specs.Git.{entry_of_first, entry_of_text, git_entries, part_entry, parts}
 use Rattle.mailmap_findings.specs.Positions.{located, located_lines}
 use Rattle.mailmap_grammar.specs.Lines.{mappings_of}
 use Rattle.mailmap_redundancy.specs.Redundancy.{LocatedMapping, entries, located_of}
@@ -44,7 +44,7 @@ use Rattle.std.specs.List.Sorted.{IsStrictlySortedBy, IsPermutation}
 use Rattle.std.specs.Ordering.{is_eq, is_lt, ordering_reverse}
 use Rattle.mailmap_contacts.specs.Proper.{is_preferred, preferred, preferred_of, proper}
 use Rattle.mailmap_contacts.proofs.Tallied.{distinct_tallied, one_list, same, then_eq}
-use Rattle.mailmap_suggestions.specs.Counted.{by_frequency, frequency_cmp, inserted, ranked, ranked_as}
+use Rattle.mailmap_suggestions.specs.Counted.{by_frequency, frequency_cmp, inserted}
 use Rattle.mailmap_entries.proofs.Joined.{never}
 
 -- ==== groups of contacts by their keys, as the code makes them
@@ -122,44 +122,35 @@ members_keyed text (t ∷ ts) k = search (rules, members_keyed text ts k)
 keys_keyed : (text : Tally → Text) (ts : List Tally) → keys (keyed_by text ts) ≡ map text ts
 keys_keyed text ts = map-map (λ (k : Text × Tally). k.0) (λ t. (text t, t)) ts
 
+keyed_groups : (text : Tally → Text) (ts : List Tally) → grouped (keyed_by text ts) ≡ map (λ k. filter (λ t. bytes_eq k (text t)) ts) (distinct (map text ts))
+keyed_groups text ts = ap (λ l. map (members (keyed_by text ts)) (distinct l)) (keys_keyed text ts)
+    ∙ map_alike (members (keyed_by text ts)) (λ k. filter (λ t. bytes_eq k (text t)) ts) (distinct (map text ts)) (all_of _ (members_keyed text ts) (distinct (map text ts)))
+
+has_other : (k : Text) → k ≢ [] → (t : Text) → (not (bytes_eq t []) && bytes_eq k t) ≡ bytes_eq k t
+has_other k some t = search rules
+
 -- those whose answers share a text
 pub shared_groups : (shared : Contact → Text) (h : Histories) (ts : List Tally)
     → grouped (keyed_by (text_of shared h) (filter (λ t. not (bytes_eq (text_of shared h t) [])) ts)) ≡ map (sharers shared h ts) (shared_texts shared h (contacts ts))
 shared_groups shared h ts =
-    ap (λ l. map (members (keyed_by text some)) (distinct l)) (keys_keyed text some ∙ sym (filter-map has text ts) ∙ ap (filter has) (sym (map-map (λ c. shared (answer_to h.ours c)) (λ (t : Tally). t.contact) ts)))
-    ∙ map_alike (members (keyed_by text some)) (sharers shared h ts) texts (all_weaker texts same_members (somes (map (λ c. shared (answer_to h.ours c)) (contacts ts))))
-  where
-    text : Tally → Text
-    text = text_of shared h
-
-    has : Text → Bool
-    has t = not (bytes_eq t [])
-
-    some : List Tally
-    some = filter (λ t. has (text t)) ts
-
-    texts : List Text
-    texts = shared_texts shared h (contacts ts)
-
-    kept : (k : Text) → k ≢ [] → (t : Tally) → (has (text t) && bytes_eq k (text t)) ≡ bytes_eq k (text t)
-    kept k is t = search rules
-
-    same_members : (k : Text) → k ≢ [] → members (keyed_by text some) k ≡ sharers shared h ts k
-    same_members k is = members_keyed text some k ∙ filter-filter (λ t. bytes_eq k (text t)) (λ t. has (text t)) ts
-        ∙ filter_agree (λ t. has (text t) && bytes_eq k (text t)) (λ t. bytes_eq k (text t)) (kept k is) ts
+    let text : Tally → Text = text_of shared h in
+    let has : Text → Bool = λ t. not (bytes_eq t []) in
+    let answer : Contact → Text = λ c. shared (answer_to h.ours c) in
+    let parts : Text → List Tally = λ k. filter (λ t. bytes_eq k (text t)) (filter (λ t. has (text t)) ts) in
+    keyed_groups text (filter (λ t. has (text t)) ts)
+    ∙ ap (λ l. map parts (distinct l)) (sym (filter-map has text ts) ∙ ap (filter has) (sym (map-map answer (λ (t : Tally). t.contact) ts)))
+    ∙ map_alike parts (sharers shared h ts) (shared_texts shared h (contacts ts)) (all_weaker (shared_texts shared h (contacts ts)) (λ k some. filter-filter (λ t. bytes_eq k (text t)) (λ t. has (text t)) ts
+    ∙ filter_agree (λ t. has (text t) && bytes_eq k (text t)) (λ t. bytes_eq k (text t)) (λ t. has_other k some (text t)) ts) (somes (map answer (contacts ts))))
 
 -- those of a group by their old emails
 pub email_groups : (ts : List Tally) → map contacts (grouped (keyed_by (λ t. folded t.contact.email) ts))
     ≡ map (λ email. of_old_email email (contacts ts)) (distinct (map (λ c. folded c.email) (contacts ts)))
-email_groups ts = map-map contacts (members ks) (distinct (keys ks))
-    ∙ map_alike (λ k. contacts (members ks k)) (λ k. of_old_email k (contacts ts)) (distinct (keys ks)) (all_of _ same_members (distinct (keys ks)))
-    ∙ ap (λ l. map (λ email. of_old_email email (contacts ts)) (distinct l)) (keys_keyed (λ t. folded t.contact.email) ts ∙ sym (map-map (λ (c : Contact). folded c.email) (λ (t : Tally). t.contact) ts))
-  where
-    ks : List (Text × Tally)
-    ks = keyed_by (λ t. folded t.contact.email) ts
-
-    same_members : (k : Text) → contacts (members ks k) ≡ of_old_email k (contacts ts)
-    same_members k = ap contacts (members_keyed (λ t. folded t.contact.email) ts k) ∙ sym (filter-map (λ c. bytes_eq k (folded c.email)) (λ (t : Tally). t.contact) ts)
+email_groups ts =
+    let email : Tally → Text = λ t. folded t.contact.email in
+    let parts : Text → List Tally = λ k. filter (λ t. bytes_eq k (email t)) ts in
+    ap (map contacts) (keyed_groups email ts) ∙ map-map contacts parts (distinct (map email ts))
+    ∙ map_alike (λ k. contacts (parts k)) (λ k. of_old_email k (contacts ts)) (distinct (map email ts)) (all_of _ (λ k. sym (filter-map (λ c. bytes_eq k (folded c.email)) (λ (t : Tally). t.contact) ts)) (distinct (map email ts)))
+    ∙ ap (λ l. map (λ k. of_old_email k (contacts ts)) (distinct l)) (sym (map-map (λ (c : Contact). folded c.email) (λ (t : Tally). t.contact) ts))
 
 -- ==== lists by frequency, and the proper one of them
 
@@ -249,17 +240,6 @@ none_named (t ∷ ts) e = preferred_unnamed t ts e
 pub nobody_or : (o : Option (Bor TheTally)) (p : Option TheTally) (d r : TheTally) → p ≡ option_copied o → r ≡ unwrap_or p d → (tally_of d).contact ≡ nobody → (tally_of r).contact ≡ contact_or_nobody (option_map tally_at o)
 nobody_or o p d r copied is none = search rules
 
--- ---- ranks
-
-pub ranked-push : (n k : ℕ) (ts : List Tally) (t : Tally) → k ≡ n + length ts → ranked n (ts ++ t ∷ []) ≡ ranked n ts ++ ranked_as k t ∷ []
-ranked-push n k [] t is = search (rules, arith)
-ranked-push n k (u ∷ ts) t is = search (rules, ranked-push (n + 1) k ts t, arith)
-
-pub ranked_more : (ts : List TheTally) (i : ℕ) (d : TheTally) → i < length ts
-    → ranked 1 (map tally_of (take (i + 1) ts)) ≡ ranked 1 (map tally_of (take i ts)) ++ ranked_as (i + 1) (tally_of (get_or ts i d)) ∷ []
-ranked_more ts i d lt = ap (ranked 1) (mapped_more tally_of ts i d lt)
-    ∙ ranked-push 1 (i + 1) (map tally_of (take i ts)) (tally_of (get_or ts i d)) (omega (arith, length-map (take i ts) tally_of, length-take-le i ts (omega (arith, lt))))
-
 -- ==== the entries of a group, as the code makes them
 
 pub plus_joined : (h : Histories) (xs ys : List Mapping) → plus (plus h xs) ys ≡ plus h (xs ++ ys)
@@ -271,9 +251,9 @@ pub answered_all : (h : Histories) (to : Contact) (ts : List TheTally) → list_
 answered_all h to ts = sym (list_all-map (is_answered h to) (λ (t : Tally). t.contact) (map tally_of ts) ∙ list_all-map (λ t. is_answered h to t.contact) tally_of ts)
 
 pub answered_as_first : (h : Histories) (ts : List TheTally) (first : TheTally) → slice_get ts 0 ≡ Some first
-    → are_answered h (answer_to h.ours (tally_of first).contact) (contacts_of ts) ≡ are_alike h (contacts_of ts)
+    → list_all (λ t. is_answered h (answer_to h.ours (tally_of first).contact) (tally_of t).contact) ts ≡ are_alike h (contacts_of ts)
 answered_as_first h [] first is = cc
-answered_as_first h (t ∷ ts) first is = cc
+answered_as_first h (t ∷ ts) first is = answered_all h (answer_to h.ours (tally_of first).contact) (t ∷ ts) ∙ cc
 
 -- as what the entries change says
 pub enough_all : (h : Histories) (to : Contact) (email : Text) (added : List Mapping) (a : Changes) (ts : List TheTally) → HaveEmail email (contacts_of ts) → AreChangesBy to email added a
@@ -284,75 +264,73 @@ enough_all h to email added a (t ∷ ts) all changed =
 
 -- ---- entries with old names, one after another
 
-module _ (h : Histories) (to : Contact) (email : Text) (whole : List Mapping) where
-  -- some were pushed, and those for the rest of the contacts complete the whole
-  pub record ArePushed (rest : List Contact) (entries : List Entry) (a : Changes) : Type 0 where
-    pub added : List Mapping
-    pub changes : AreChangesBy to email added a
-    pub one_email : HaveEmail email rest
-    pub completed : map mapping_of entries ++ named_entries (plus h added) to rest ≡ whole
+-- these were pushed, and those for the rest of the contacts complete the whole
+pub record ArePushed (h : Histories) (to : Contact) (whole : List Mapping) (rest : List Contact) (added : List Mapping) (a : Changes) : Type 0 where
+  pub email : Text
+  pub one_email : HaveEmail email rest
+  pub changes : AreChangesBy to email added a
+  pub completed : added ++ named_entries (plus h added) to rest ≡ whole
 
-  module _ (ts : List TheTally) (i : ℕ) (d : TheTally) (lt : i < length ts) (entries : List Entry) (a : Changes) (now : ArePushed (contacts_of (drop i ts)) entries a) where
-    abbrev t : TheTally
-    t = get_or ts i d
+module _ (h : Histories) (to : Contact) (whole : List Mapping) (ts : List TheTally) (i : ℕ) (d : TheTally) (lt : i < length ts) (added : List Mapping) (a : Changes) (now : ArePushed h to whole (contacts_of (drop i ts)) added a) where
+  abbrev t : TheTally
+  t = get_or ts i d
 
-    abbrev rest : List Contact
-    rest = contacts_of (drop (i + 1) ts)
+  abbrev rest : List Contact
+  rest = contacts_of (drop (i + 1) ts)
 
-    abbrev form : Mapping
-    form = named_form to (tally_of t).contact
+  abbrev form : Mapping
+  form = named_form to (tally_of t).contact
 
-    before : ArePushed ((tally_of t).contact ∷ rest) entries a
-    before = subst (λ cs. ArePushed cs entries a) (at_drop_more contacts_of ts i d lt) now
+  before : ArePushed h to whole ((tally_of t).contact ∷ rest) added a
+  before = subst (λ cs. ArePushed h to whole cs added a) (at_drop_more contacts_of ts i d lt) now
 
-    decided : is_answered (plus h before.added) to (tally_of t).contact ≡ are_enough a h to t
-    decided = sym (enough_is h to t a before.added (subst (λ e. AreChangesBy to e before.added a) (sym (before.one_email).0) before.changes))
+  changed : AreChangesBy to (folded t.email.now) added a
+  changed = subst (λ e. AreChangesBy to e added a) (sym (before.one_email).0) before.changes
 
-    pub none_pushed : are_enough a h to t ≡ true → ArePushed rest entries a
-    none_pushed is = record { added = before.added; changes = before.changes; one_email = (before.one_email).1; completed = rw (decided ∙ is) at before.completed }
+  pub none_pushed : are_enough a h to t ≡ true → ArePushed h to whole rest added a
+  none_pushed is = record { email = before.email; one_email = (before.one_email).1; changes = before.changes; completed = rw (sym (enough_is h to t a added changed) ∙ is) at before.completed }
 
-    pub one_pushed : are_enough a h to t ≡ false → (new : List Entry) (b : Changes) → map mapping_of new ≡ map mapping_of entries ++ form ∷ []
-        → ((added : List Mapping) → AreChangesBy to (folded t.email.now) added a → AreChangesBy to (folded t.email.now) (added ++ form ∷ []) b) → ArePushed rest new b
-    one_pushed is new b new_is changed = record {
-      added = before.added ++ form ∷ [];
-      changes =
-          let P : Text → Type 0 = λ e. AreChangesBy to e before.added a → AreChangesBy to e (before.added ++ form ∷ []) b in
-          subst P (before.one_email).0 (changed before.added) before.changes;
-      one_email = (before.one_email).1;
-      completed = (λ i. new_is i ++ named_entries (sym (plus_joined h before.added (form ∷ [])) i) to rest)
-          ∙ append_assoc (map mapping_of entries) (form ∷ []) (named_entries (plus (plus h before.added) (form ∷ [])) to rest) ∙ rw (decided ∙ is) at before.completed;
-    }
+  pub one_pushed : are_enough a h to t ≡ false → (more : List Mapping) → more ≡ added ++ form ∷ [] → (b : Changes) → (AreChangesBy to (folded t.email.now) added a → AreChangesBy to (folded t.email.now) (added ++ form ∷ []) b) → ArePushed h to whole rest more b
+  one_pushed is more more_is b after = subst (λ l. ArePushed h to whole rest l b) (sym more_is) (record {
+    email = folded t.email.now;
+    one_email = subst (λ e. HaveEmail e rest) (sym (before.one_email).0) (before.one_email).1;
+    changes = after changed;
+    completed = (λ i. (added ++ form ∷ []) ++ named_entries (sym (plus_joined h added (form ∷ [])) i) to rest)
+        ∙ append_assoc added (form ∷ []) (named_entries (plus (plus h added) (form ∷ [])) to rest) ∙ rw (sym (enough_is h to t a added changed) ∙ is) at before.completed;
+  })
 
 -- ==== the entry without an old name that contacts need
 
-pub plain_nobody : (h : Histories) (to : Contact) (ts : List TheTally) → None ≡ slice_get ts 0 → [] ≡ plain_entries h to (contacts_of ts)
+pub plain_nobody : (h : Histories) (to : Contact) (ts : List TheTally) → None ≡ slice_get ts 0 → plain_entries h to (contacts_of ts) ≡ []
 plain_nobody h to [] none = refl
-plain_nobody h to (t ∷ ts) none = cc
+plain_nobody h to (t ∷ ts) none = absurd (cc)
 
-pub plain_answered : (h : Histories) (to : Contact) (cs : List Contact) → are_answered h to cs ≡ true → [] ≡ plain_entries h to cs
-plain_answered h to [] is = refl
-plain_answered h to (c ∷ cs) is = search rules
+first_email : (email : Text) (ts : List TheTally) (first : TheTally) → Some first ≡ slice_get ts 0 → HaveEmail email (contacts_of ts) → folded first.email.now ≡ email
+first_email email [] first is all = absurd (cc)
+first_email email (t ∷ ts) first is all = cc
 
--- as the first one's, in the short form if that is enough
-module _ (h : Histories) (to : Contact) (email : Text) where
-  pub plain_formed : (ts : List TheTally) (first : TheTally) → Some first ≡ slice_get ts 0 → are_answered h to (contacts_of ts) ≡ false
-      → (b : Bool) → (fits to (tally_of first).contact && are_answered (plus h (short_form to ∷ [])) to (contacts_of ts)) ≡ b
-      → (if b then short_form to else long_form to (tally_of first).contact) ∷ [] ≡ plain_entries h to (contacts_of ts)
-  plain_formed [] first is unanswered b enough = absurd (cc)
-  plain_formed (t ∷ ts) first is unanswered b enough = search rules
+module _ (h : Histories) (to : Contact) (ts : List TheTally) (first : TheTally) (is : Some first ≡ slice_get ts 0) where
+  -- as the first one's, in the short form if that is enough
+  pub plain_first : plain_entries h to (contacts_of ts) ≡ (if are_answered h to (contacts_of ts) then []
+      else (if fits to (tally_of first).contact && are_answered (plus h (short_form to ∷ [])) to (contacts_of ts) then short_form to else long_form to (tally_of first).contact) ∷ [])
+  plain_first = elim ts as (λ l. Some first ≡ slice_get l 0 → plain_entries h to (contacts_of l) ≡ (if are_answered h to (contacts_of l) then []
+      else (if fits to (tally_of first).contact && are_answered (plus h (short_form to ∷ [])) to (contacts_of l) then short_form to else long_form to (tally_of first).contact) ∷ []))
+      [ [] ↦ λ e. absurd (cc) | t ∷ ts ↦ λ e. cc ] is
 
-  first_email : (ts : List TheTally) (first : TheTally) → HaveEmail email (contacts_of ts) → Some first ≡ slice_get ts 0 → folded first.email.now ≡ email
-  first_email [] first all is = absurd (cc)
-  first_email (t ∷ ts) first all is = cc
+  -- what the short form changes says whether it is
+  pub short_tried : (email : Text) → HaveEmail email (contacts_of ts) → (a : Changes) → (AllByRecursion (IsPlain email) (short_form to ∷ []) → AreChangesBy to email (short_form to ∷ []) a)
+      → (fits to (tally_of first).contact && list_all (are_enough a h to) ts) ≡ (fits to (tally_of first).contact && are_answered (plus h (short_form to ∷ [])) to (contacts_of ts))
+  short_tried email all a given = elim (fits to (tally_of first).contact) as (λ b. fits to (tally_of first).contact ≡ b → (b && list_all (are_enough a h to) ts) ≡ (b && are_answered (plus h (short_form to ∷ [])) to (contacts_of ts))) [
+    | true ↦ λ fitting.
+        let same = same_bytes (folded to.email) (folded first.email.now) (and_parts (is_some (name_unless_empty to)) (bytes_eq (folded to.email) (folded first.email.now)) fitting).1 in
+        enough_all h to email (short_form to ∷ []) a ts all (given ((refl, λ i. ((same ∙ first_email email ts first is all) i, None)), tt))
+    | false ↦ λ _. refl
+  ] refl
 
-  -- what is tried decides
-  pub plain_tried : (ts : List TheTally) (first : TheTally) → Some first ≡ slice_get ts 0 → are_answered h to (contacts_of ts) ≡ false → HaveEmail email (contacts_of ts)
-      → fits to (tally_of first).contact ≡ true → (short : Mapping) → short ≡ short_form to → (a : Changes) → (AllByRecursion (IsPlain email) (short ∷ []) → AreChangesBy to email (short ∷ []) a)
-      → (b : Bool) → list_all (are_enough a h to) ts ≡ b → (if b then short_form to else long_form to (tally_of first).contact) ∷ [] ≡ plain_entries h to (contacts_of ts)
-  plain_tried ts first is unanswered all fitting short short_is a changed b enough =
-      let plain : IsPlain email (short_form to) = (refl, λ i. ((same_bytes (folded to.email) (folded first.email.now) (and_parts (is_some (name_unless_empty to)) (bytes_eq (folded to.email) (folded first.email.now)) fitting).1 ∙ first_email ts first all is) i, None)) in
-      plain_formed ts first is unanswered b ((λ i. fitting i && are_answered (plus h (sym short_is i ∷ [])) to (contacts_of ts))
-      ∙ sym (enough_all h to email (short ∷ []) a ts all (changed (subst (IsPlain email) (sym short_is) plain, tt))) ∙ enough)
+  pub plain_tried : are_answered h to (contacts_of ts) ≡ false → (email : Text) → HaveEmail email (contacts_of ts) → (a : Changes) (short : Mapping) → short ≡ short_form to → (AllByRecursion (IsPlain email) (short ∷ []) → AreChangesBy to email (short ∷ []) a)
+      → (b : Bool) → (fits to (tally_of first).contact && list_all (are_enough a h to) ts) ≡ b → (if b then short_form to else long_form to (tally_of first).contact) ∷ [] ≡ plain_entries h to (contacts_of ts)
+  plain_tried unanswered email all a short is_short given b tried = sym (plain_first ∙ (λ i. if unanswered i then []
+      else (if (sym (short_tried email all a (subst (λ x. AllByRecursion (IsPlain email) (x ∷ []) → AreChangesBy to email (x ∷ []) a) is_short given)) ∙ tried) i then short_form to else long_form to (tally_of first).contact) ∷ []))
 
 -- ==== contacts of a group, part by part
 
@@ -369,12 +347,29 @@ plain_entries_plain h to email cs all = each_plain (IsPlain email) to h cs (all_
 pub unowned_are : (h : Histories) (ts : List TheTally) → contacts_of (filter (λ t. not (has_own_entry h (tally_of t).contact)) ts) ≡ filter (λ c. not (has_own_entry h c)) (contacts_of ts)
 unowned_are h ts = search (rules, filter-map)
 
--- contacts with one old email
-abbrev HaveOneEmail : List Contact → Type 0
-HaveOneEmail cs = (email : Text) × HaveEmail email cs
+-- the contacts without entries of their own have the same old email
+pub unowned_email : (h : Histories) (email : Text) (ts us : List TheTally) → us ≡ filter (λ t. not (has_own_entry h (tally_of t).contact)) ts → HaveEmail email (contacts_of ts)
+    → HaveEmail email (contacts_of us) × (contacts_of us ≡ filter (λ c. not (has_own_entry h c)) (contacts_of ts))
+unowned_email h email ts us is all =
+    let same = ap contacts_of is ∙ unowned_are h ts in
+    (subst (HaveEmail email) (sym same) (all_filtered (λ c. not (has_own_entry h c)) (λ c. folded c.email ≡ email) (λ c. folded c.email ≡ email) (λ c is _. is) (contacts_of ts) all), same)
 
-abbrev pub IsPart : Vec TheTally → Type 0
-IsPart part = HaveOneEmail (contacts (tallies_in part))
+listed_sliced : (plain : Option Entry) (entries slice : List Entry) → entries ≡ slice → MatchOption plain (slice ≡ []) (λ x. slice ≡ x ∷ []) → map mapping_of entries ≡ listed plain
+listed_sliced None entries slice same is = ap (map mapping_of) (same ∙ is)
+listed_sliced (Some x) entries slice same is = ap (map mapping_of) (same ∙ is)
+
+pub begun : (h : Histories) (to : Contact) (email : Text) (ts us : List TheTally) (plain : Option Entry) (entries slice : List Entry) (a : Changes) → us ≡ filter (λ t. not (has_own_entry h (tally_of t).contact)) ts → HaveEmail email (contacts_of ts)
+    → listed plain ≡ plain_entries h to (contacts_of us) → entries ≡ slice → MatchOption plain (slice ≡ []) (λ x. slice ≡ x ∷ []) → (AllByRecursion (IsPlain email) (listed plain) → AreChangesBy to email (listed plain) a)
+    → ArePushed h to (entries_for_email h to (contacts_of ts)) (contacts_of ts) (map mapping_of entries) a
+begun h to email ts us plain entries slice a is all plain_is same sliced changed =
+    let ones = unowned_email h email ts us is all in
+    let pushed = listed_sliced plain entries slice same sliced in
+    record {
+      email = email;
+      one_email = all;
+      changes = subst (λ l. AreChangesBy to email l a) (sym pushed) (changed (subst (AllByRecursion (IsPlain email)) (sym plain_is) (plain_entries_plain h to email (contacts_of us) ones.0)));
+      completed = ap (λ p. p ++ named_entries (plus h p) to (contacts_of ts)) (pushed ∙ plain_is ∙ ap (plain_entries h to) ones.1);
+    }
 
 one_email : (cs : List Contact) (email : Text) → HaveOneEmail (of_old_email email cs)
 one_email cs email =
@@ -398,33 +393,21 @@ parts_whole h to cs parts are =
 abbrev AreAccepted : List Mapping → Type 0
 AreAccepted = AllByRecursion (λ e. is_accepted e ≡ true)
 
-located_accepted_entries : (xs : List LocatedMapping) → AllByRecursion (λ x. is_accepted x.entry ≡ true) xs → AreAccepted (entries xs)
-located_accepted_entries [] all = tt
-located_accepted_entries (x ∷ xs) all = (all.0, located_accepted_entries xs all.1)
-
 pub ours_accepted : (buffer : Text) → accepted (mappings_of buffer) ≡ mappings_of buffer
 ours_accepted buffer =
     let whole = mappings_of-located_lines 0 (buffer ∷ []) in
     filter_all is_accepted (mappings_of buffer) (subst AreAccepted (whole ∙ append-nil (mappings_of buffer))
-    (located_accepted_entries (located (located_lines (buffer ∷ []))) (located_accepted (located_lines (buffer ∷ [])))))
+    (all_mapped (λ (x : LocatedMapping). x.entry) (λ e. is_accepted e ≡ true) (located (located_lines (buffer ∷ []))) (located_accepted (located_lines (buffer ∷ [])))))
 
 -- ---- those that git reads
 
-abbrev IfAccepted : Option Mapping → Type 0
-IfAccepted None = Unit {0}
-IfAccepted (Some e) = is_accepted e ≡ true
-
-first_accepted : (new : GitContact) → IfAccepted (entry_of_first new)
-unfolding entry_of_first
-first_accepted new = search rules
-
-text_accepted : (text : Text) → IfAccepted (entry_of_text text)
-unfolding entry_of_text
-text_accepted text = search (rules, first_accepted)
+part_accepted : (p : Text) → IfSome (part_entry p) (λ e. is_accepted e ≡ true)
+unfolding entry_of_text entry_of_first
+part_accepted p = search rules
 
 parts_accepted : (ps : List Text) → AreAccepted (filter_map part_entry ps)
 parts_accepted [] = tt
-parts_accepted (p ∷ ps) = search (rules, parts_accepted ps, text_accepted)
+parts_accepted (p ∷ ps) = search (rules, parts_accepted ps, part_accepted p)
 
 pub line_accepted : (line : Text) → accepted (git_entries line) ≡ git_entries line
 unfolding git_entries
@@ -437,13 +420,9 @@ line_accepted line = filter_all is_accepted (filter_map part_entry (parts line))
 entries_accepted : (to : Contact) (h : Histories) (cs : List Contact) → AreAccepted (entries_to h to cs)
 entries_accepted to h cs = search (rules, all_joined, all_of, each_for_email)
 
-located_entries : (xs : List LocatedEntry) → entries (map located_of xs) ≡ map (λ x. mapping_of x.entry) xs
-located_entries [] = refl
-located_entries (x ∷ xs) = ap (λ l. mapping_of x.entry ∷ l) (located_entries xs)
-
 -- the entries of a table, whose history are these
 pub entries_in : (history : List LocatedMapping) (now items : List LocatedEntry) → history ≡ map located_of now → now ≡ items → entries history ≡ map (λ x. mapping_of x.entry) items
-entries_in history now items is same = ap entries (is ∙ ap (map located_of) same) ∙ located_entries items
+entries_in history now items is same = ap entries (is ∙ ap (map located_of) same) ∙ map-map (λ (x : LocatedMapping). x.entry) located_of items
 
 -- ---- what was suggested
 

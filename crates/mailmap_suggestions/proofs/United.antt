@@ -1,11 +1,10 @@
 -- What suggested entries do: they unite the contacts, can be written, and are read from their text.
-use Rattle.std.proofs.Common.{◌≡◌, ◌+◌, ℕ, None, option_to_list, List, [], ◌∷◌, ◌++◌, filter, refl, sym, ◌∙◌, rules, ◌≢◌, ◌&&◌, Bool, true, false, ap, append-nil, bytes_eq, if◌then◌else◌, inl, map, not, subst, ⊎_elim, Option, Some, IfSome, option_map, Ok, zero, suc, decimal, append_assoc, arith}
+use Rattle.std.proofs.Common.{◌≡◌, ◌+◌, ℕ, None, option_to_list, List, [], ◌∷◌, ◌++◌, filter, refl, sym, ◌∙◌, rules, ◌≢◌, ◌&&◌, Bool, true, false, ap, append-nil, bytes_eq, if◌then◌else◌, map, not, subst, ⊎_elim, Option, Some, Ok, zero, suc, decimal, append_assoc, arith}
 use Rattle.std.specs.List.{AllByRecursion, flat_map, list_any}
 use Rattle.mailmap_entries.specs.Entries.{Mapping}
-use Rattle.mailmap_entries.specs.Folding.{Text, folded, text_cmp}
-use Rattle.mailmap_entries.specs.Semantics.{first, Fields, accepted, is_accepted, of_email}
+use Rattle.mailmap_entries.specs.Folding.{Text, folded}
+use Rattle.mailmap_entries.specs.Semantics.{first, accepted, is_accepted}
 use Rattle.mailmap_entries.proofs.Parts.{filter-map, all_weaker, all_map, all_mapped, all_append}
-use Rattle.mailmap_findings.proofs.Concatenated.{texts}
 use Rattle.mailmap_grammar.specs.CanonicalText.{IsWritable, IsWritableEmail, IsWritableName}
 use Rattle.mailmap_grammar.specs.Lines.{mappings_of, Reading, is_comment, line_reading, reading, reading_by, strict_line_reading, strict_reading, unless_blank, HoldsNo, ParsedContact, mappings_in, pieces, readings_from}
 use Rattle.mailmap_snapshot.proofs.WritableLines.{ContactFits, all_read, contact_fits}
@@ -16,11 +15,10 @@ use Rattle.mailmap_contacts.specs.Contacts.{Contact, Tally, answer_to, answered,
 use Rattle.mailmap_contacts.proofs.Steps.{all_filtered}
 use Rattle.mailmap_contacts.proofs.Tallied.{each_tallied, each_untallied}
 use Rattle.mailmap_suggestions.specs.Counted.{counted_answers, by_frequency, git_answered, counted_git_answers, other_git_answers, ranked}
-use Rattle.mailmap_suggestions.specs.Forms.{IsAnswered, Stays, alike, distinct, entries_for_email, entries_to, git_answer_to, is_answered, named_form, of_old_email}
-use Rattle.mailmap_suggestions.proofs.Appended.{affects, empty_or, folded_empty, git_without_email, parts_answer, parts_stay, answer_is, fields, git_is, made, own_fields, spelled, accepted_all, fields_all, answered_decides, Concerns, IsWanting, Linked, OfPlain, affected_linked, all_true, answered_by_own, each_entry, email_needed, entries_all, entries_concern, linked_email, of_email_all, unaffected_part}
+use Rattle.mailmap_suggestions.specs.Forms.{Histories, IsAnswered, Stays, alike, distinct, git_answer_to}
+use Rattle.mailmap_suggestions.proofs.Appended.{affects, empty_or, folded_empty, git_without_email, parts_answer, parts_stay, own_fields, accepted_all, Gives, IsWanting, Linked, OfForms, OfNeeded, all_answered, answered_by_own, answers_all, each_entry, entries_all, forms_linked, linked_email, unaffected_part}
 use Rattle.mailmap_suggestions.proofs.Distinct.{◌∈◌, all_among, among_passing, at, each, each_pair, equal_bytes, filter_joined, from_filter, in_filter, no_part, same_bytes, somes, all_joined, all_of}
 use Rattle.mailmap_suggestions.proofs.Forms.{Each, all_by_frequency, all_named, from_by_frequency, none_named}
-use Rattle.std.specs.Ordering.{eq_by_cmp}
 use Rattle.mailmap_grammar.specs.Trimming.{trim}
 use Rattle.mailmap_snapshot.proofs.WhiteEnds.{trim-blank_start, HoldsNo-trim, trim-nil}
 use Rattle.mailmap_snapshot.proofs.WrittenLine.{body, reading-canonical_line, strict_reading-canonical_line, one_line}
@@ -43,9 +41,12 @@ lines_named buffers = writable_named (flat_map mappings_of buffers) (all_read bu
 
 -- ---- the proper answer
 
+-- what is counted stays as it is
+counted_each : (P : Contact → Type 0) (ts : List Tally) → Each P ts → Each P (by_frequency (tallied ts))
+counted_each P ts all = all_by_frequency (λ t. P t.contact) (tallied ts) (each_tallied P ts all)
+
 pub each_counted : (P : Contact → Type 0) (h : List Mapping) (g : List Tally) → AllByRecursion (λ c. P (answer_to h c)) (contacts g) → Each P (counted_answers (alike h) g)
-each_counted P h g all = all_by_frequency (λ t. P t.contact) (tallied (map (answered h) g))
-    (each_tallied P (map (answered h) g) (all_mapped (answered h) (λ u. P u.contact) g (all_map (λ u. u.contact) (λ c. P (answer_to h c)) g all)))
+each_counted P h g all = counted_each P (map (answered h) g) (all_mapped (answered h) (λ u. P u.contact) g (all_map (λ u. u.contact) (λ c. P (answer_to h c)) g all))
 
 from_counted : (P : Contact → Type 0) (h : List Mapping) (g : List Tally) → Each P (counted_answers (alike h) g) → AllByRecursion (λ c. P (answer_to h c)) (contacts g)
 from_counted P h g all = all_mapped (λ u. u.contact) (λ c. P (answer_to h c)) g
@@ -66,7 +67,7 @@ alike_all : (h : List Mapping) (cs : List Contact) → are_alike (alike h) cs �
 alike_all h [] is c d i j = absurd i
 alike_all h (x ∷ xs) is c d i j =
     let a = answer_to h x in
-    let all : AllByRecursion (IsAnswered h a) (x ∷ xs) = all_true (is_answered (alike h) a) (IsAnswered h a) (λ e. (answered_decides h a e).0) (x ∷ xs) is in
+    let all = all_answered h a (x ∷ xs) is in
     subst (λ b. IsAnswered h b c) (sym (at (IsAnswered h a) (x ∷ xs) all d j).0) (at (IsAnswered h a) (x ∷ xs) all c i)
 
 flat_filtered : {X Y Z : Type 0} (f : X → Y) (q : Y → Bool) (F : Y → List Z) (xs : List X) → flat_map F (filter q (map f xs)) ≡ flat_map (λ x. if q (f x) then F (f x) else []) xs
@@ -81,8 +82,8 @@ each_group shared h ts Q f =
     (all_mapped (sharers shared (alike h) ts) Q texts (all_weaker texts f (somes (map (λ c. shared (answer_to h c)) (contacts ts)))))
 
 -- what the entries need of new names
-named_forms : (to c : Contact) → OfPlain HasNoEmptyName to c × HasNoEmptyName (named_form to c)
-named_forms to c = search (rules, equal_bytes)
+named_forms : (h : Histories) (to c : Contact) → OfForms HasNoEmptyName to h c
+named_forms h to c = search (rules, equal_bytes)
 
 module _ (h : List Mapping) (ts : List Tally) (shared : Contact → Text) (named : AllByRecursion HasNoEmptyName h) where
   abbrev pub text : Contact → Text
@@ -123,14 +124,7 @@ module _ (h : List Mapping) (ts : List Tally) (shared : Contact → Text) (named
   added_named =
       let gs = groups shared (alike h) ts in
       all_append HasNoEmptyName h added named (all_joined HasNoEmptyName (group_entries (alike h)) gs
-      (all_of (λ g. AllByRecursion HasNoEmptyName (group_entries (alike h) g)) (λ g. each_entry HasNoEmptyName (proper_answer (alike h) g) (named_forms (proper_answer (alike h) g)) (alike h) (contacts g)) gs))
-
-  abbrev Shares : Text → Contact → Type 0
-  Shares t b = (b ∈ contacts ts) × (text b ≡ t)
-
-  concerned : (t : Text) → AllByRecursion (Concerns h (Shares t)) (part t)
-  unfolding part
-  concerned t = search (rules, entries_concern h (Shares t) (wanted t) (group t) (each (Shares t) (group t) (from_group t)))
+      (all_of (λ g. AllByRecursion HasNoEmptyName (group_entries (alike h) g)) (λ g. each_entry HasNoEmptyName (proper_answer (alike h) g) (alike h) (contacts g) (all_of _ (named_forms (alike h) (proper_answer (alike h) g)) (contacts g))) gs))
 
   if_alike : (c : Contact) → c ∈ contacts ts → are_alike (alike h) (group (text c)) ≡ true → IsAnswered h (wanted (text c)) c
   if_alike c i is =
@@ -148,13 +142,18 @@ module _ (h : List Mapping) (ts : List Tally) (shared : Contact → Text) (named
         | true ↦ λ is. subst (λ l. IsAnswered l (wanted (text c)) c) (sym (append-nil h)) (if_alike c i is)
         | false ↦ λ _.
             at (IsAnswered (h ++ group_entries (alike h) (members (text c))) (wanted (text c))) (group (text c))
-            (entries_all (group (text c)) h named (wanted (text c)) (wanting (text c))) c (in_group c i)
+            (entries_all h named (wanted (text c)) (λ _. Unit {0}) (group (text c)) (all_weaker (group (text c)) (λ d w. (w, (((λ _ _. tt), tt), λ _. tt))) (wanting (text c)))).0 c (in_group c i)
       ] refl
 
   -- linked contacts share what their answers share
   module _ (together : (b c : Contact) → b ∈ contacts ts → c ∈ contacts ts → Linked h b c → text b ≡ text c) where
     alone : (c : Contact) → c ∈ contacts ts → (t : Text) → AllByRecursion (λ x. affects h c x ≡ true → t ≡ text c) (part t)
-    alone c i t = all_weaker (part t) (λ x concern affected. sym (concern.is_in).1 ∙ together concern.b c (concern.is_in).0 i (affected_linked h (Shares t) x c concern affected)) (concerned t)
+    unfolding part
+    alone c i t = elim (are_alike (alike h) (group t)) as (λ b. AllByRecursion (λ x. affects h c x ≡ true → t ≡ text c) (if not b then group_entries (alike h) (members t) else [])) [
+      | true ↦ tt
+      | false ↦ each_entry (λ x. affects h c x ≡ true → t ≡ text c) (wanted t) (alike h) (group t) (each (OfForms (λ x. affects h c x ≡ true → t ≡ text c) (wanted t) (alike h)) (group t)
+          (λ b j. let found = from_group t b j in forms_linked h (wanted t) b c (t ≡ text c) (λ l. sym found.1 ∙ together b c found.0 i l)))
+    ]
 
     pub grouped : (c : Contact) → c ∈ contacts ts → text c ≢ [] → IsAnswered (h ++ added) (wanted (text c)) c
     grouped c i some =
@@ -189,7 +188,7 @@ module _ (h : List Mapping) (ts : List Tally) (shared : Contact → Text) (named
 
     module _ (git : (c : Contact) → c ∈ contacts ts → text c ≡ [] → git_answer_to h c ≡ answer_to h c) where
       -- git answers as this library does
-      pub git_agrees : (c : Contact) → c ∈ contacts ts → git_answer_to (h ++ added) c ≡ answer_to (h ++ added) c
+      git_agrees : (c : Contact) → c ∈ contacts ts → git_answer_to (h ++ added) c ≡ answer_to (h ++ added) c
       git_agrees c i = ⊎_elim (λ none. (others c i none).1 ∙ git c i none ∙ sym (others c i none).0)
           (λ some. (grouped c i some).1 ∙ sym (grouped c i some).0) (empty_or (text c))
 
@@ -226,27 +225,21 @@ module _ (h : List Mapping) (ts : List Tally) (all : AllByRecursion HasNoEmptyNa
   abbrev with_names : List Mapping
   with_names = with_emails ++ name_entries (alike h) ts
 
-  by_email : (b c : Contact) → b ∈ cs → c ∈ cs → Linked h b c → email_shared (answer_to h b) ≡ email_shared (answer_to h c)
-  by_email b c i j = linked_email h b c
-
-  git_by_email : (c : Contact) → c ∈ cs → email_shared (answer_to h c) ≡ [] → git_answer_to h c ≡ answer_to h c
-  git_by_email c i = git_without_email h c
-
   pub unites_emails : Unites email_shared h ts with_emails
-  unites_emails = unites h ts email_shared all by_email git_by_email
+  unites_emails = unites h ts email_shared all (λ b c i j. linked_email h b c) (λ c i. git_without_email h c)
 
   emails_named : AllByRecursion HasNoEmptyName with_emails
   emails_named = added_named h ts email_shared all
 
   -- answers with one email are the same
   one_by_email : (b c : Contact) → b ∈ cs → c ∈ cs → Agree email_shared with_emails b c
-  one_by_email = one_by_text h ts email_shared all by_email
+  one_by_email = one_by_text h ts email_shared all (λ b c i j. linked_email h b c)
 
   by_name : (b c : Contact) → b ∈ cs → c ∈ cs → Linked with_emails b c → name_shared (answer_to with_emails b) ≡ name_shared (answer_to with_emails c)
   by_name b c i j linked = name_alike (answer_to with_emails b) (answer_to with_emails c) (linked_email with_emails b c linked) (one_by_email b c i j (linked_email with_emails b c linked))
 
   pub unites_names : Unites name_shared with_emails ts with_names
-  unites_names = unites with_emails ts name_shared emails_named by_name (λ c i none. git_agrees h ts email_shared all by_email git_by_email c i)
+  unites_names = unites with_emails ts name_shared emails_named by_name (λ c i none. at (λ c. git_answer_to with_emails c ≡ answer_to with_emails c) cs unites_emails.git c i)
 
   -- no two answers share an email and differ then, either
   pub emails_stay : AllAgree email_shared with_names cs
@@ -263,88 +256,25 @@ IsGood e = IsWritable e × (is_accepted e ≡ true)
 
 -- ---- answers
 
-abbrev AreWritable : Fields → Type 0
-AreWritable f = IfSome f.name IsWritableName × IfSome f.email IsWritableEmail
+-- what answers need of new names
+abbrev WritableUnlessEmpty : Text → Type 0
+WritableUnlessEmpty n = n ≢ [] → IsWritableName n
 
-fields_writable : (h : List Mapping) (c : Contact) → AllByRecursion IsWritable h → AreWritable (fields h c)
-fields_writable h c all =
-    fields_all (λ o. IfSome o IsWritableName) (λ o. IfSome o IsWritableEmail) tt tt h c (all_weaker h (λ x w. (w.names.0, w.emails.0)) all)
-
-spelled_writable : (h : List Mapping) (c : Contact) → AllByRecursion IsWritable h → IfSome (spelled h c) IsWritableEmail
-spelled_writable h c all = by (of_email h (folded c.email))
-    (all_filtered (λ e. eq_by_cmp text_cmp (folded c.email) (folded e.old_email)) IsWritable IsWritable (λ e p _. p) (accepted h) (accepted_all IsWritable h all))
+pub answers_writable : (h : List Mapping) (c : Contact) → AllByRecursion IsWritable h → IsWritableContact c → IsWritableContact (answer_to h c) × IsWritableContact (git_answer_to h c)
+answers_writable h c all w =
+    let both = answers_all WritableUnlessEmpty IsWritableEmail h c (all_weaker h gives all) (w.name, w.email) in
+    (record { name = both.0.0; email = both.0.1 }, record { name = both.1.0; email = both.1.1 })
   where
-    by : (l : List Mapping) → AllByRecursion IsWritable l → IfSome (option_map (λ e. e.old_email) (first l)) IsWritableEmail
-    by [] all = tt
-    by (x ∷ xs) all = all.0.emails.1
-
-made_writable : (c : Contact) (f : Fields) (kept : Option Text) → IsWritableContact c → AreWritable f → IfSome kept IsWritableEmail → IsWritableContact (made c f kept)
-made_writable c f kept w fits email = search rules
-
-pub answer_writable : (h : List Mapping) (c : Contact) → AllByRecursion IsWritable h → IsWritableContact c → IsWritableContact (answer_to h c)
-answer_writable h c all w =
-    subst IsWritableContact (sym (answer_is h c)) (made_writable c (fields h c) (spelled h c) w (fields_writable h c all) (spelled_writable h c all))
-
-pub git_writable : (h : List Mapping) (c : Contact) → AllByRecursion IsWritable h → IsWritableContact c → IsWritableContact (git_answer_to h c)
-git_writable h c all w = subst IsWritableContact (sym (git_is h c)) (made_writable c (fields h c) None w (fields_writable h c all) tt)
+    gives : (x : Mapping) → IsWritable x → Gives WritableUnlessEmpty IsWritableEmail x
+    gives x w = search rules
 
 -- a contact without a name has no entry of its own
 pub unnamed_own : (h : List Mapping) (c : Contact) → AllByRecursion IsWritable h → c.name ≡ [] → own_fields h c ≡ None
 unnamed_own h c all empty = search (rules, filter_none, all_weaker, accepted_all, folded_empty)
 
--- ---- the forms
-
--- what holds of a contact that can be suggested
-pub record IsSuggestible (to : Contact) : Type 0 where
-  pub writable : IsWritableContact to
-  pub some : to.email ≢ []
-
--- ---- the entries
-
-module _ (h : List Mapping) (writable : AllByRecursion IsWritable h) where
-  abbrev named : AllByRecursion HasNoEmptyName h
-  named = writable_named h writable
-
-  entries_good : (to : Contact) → IsSuggestible to → (cs : List Contact) → AllByRecursion (IsWanting h to) cs → AllByRecursion IsWritableContact cs → AllByRecursion IsGood (entries_to (alike h) to cs)
-  entries_good to s cs wanting each =
-      let emails = distinct (map (λ c. folded c.email) cs) in
-      all_joined IsGood (λ email. entries_for_email (alike h) to (of_old_email email cs)) emails
-      (all_of (λ email. AllByRecursion IsGood (entries_for_email (alike h) to (of_old_email email cs))) (λ email.
-      let ones = of_old_email email cs in
-      let good : AllByRecursion IsWritableContact ones = all_filtered (λ c. bytes_eq email (folded c.email)) IsWritableContact IsWritableContact (λ c w _. w) cs each in
-      email_needed h named to email ones (of_email_all cs (IsWanting h to) email wanting) IsGood
-      (all_weaker ones (λ c w. (λ some _. search rules, search rules)) good)
-      (all_weaker ones (λ c w owned. let some : c.name ≢ [] = λ empty. owned (unnamed_own h c writable empty) in search rules) good)) emails)
-
-  -- ---- all suggested entries
-
-  group_good : (g : List Tally) → AllByRecursion (IsWanting h (proper_answer (alike h) g)) (contacts g) → Each IsWritableContact g → AllByRecursion (λ c. (answer_to h c).email ≢ []) (contacts g)
-      → AllByRecursion IsGood (group_entries (alike h) g)
-  group_good [] wanting each some = tt
-  group_good (t ∷ ts) wanting each some =
-      let d = proper_comes h (t ∷ ts) t.contact (inl refl) in
-      let writables = all_mapped (λ u. u.contact) IsWritableContact (t ∷ ts) each in
-      entries_good (proper_answer (alike h) (t ∷ ts)) (record {
-        writable = subst IsWritableContact d.2 (answer_writable h d.0 writable (at IsWritableContact (contacts (t ∷ ts)) writables d.0 d.1));
-        some = subst (λ a. a.email ≢ []) d.2 (at (λ c. (answer_to h c).email ≢ []) (contacts (t ∷ ts)) some d.0 d.1);
-      }) (contacts (t ∷ ts)) wanting writables
-
-  module _ (ts : List Tally) (shared : Contact → Text) (has_email : (a : Contact) → shared a ≢ [] → a.email ≢ []) (each_writable : Each IsWritableContact ts) where
-    pub sharing_writable : (t : Text) → Each IsWritableContact (sharers shared (alike h) ts t)
-    sharing_writable t = all_filtered (λ u. bytes_eq t (shared (answer_to h u.contact))) (λ u. IsWritableContact u.contact) (λ u. IsWritableContact u.contact) (λ u w _. w) ts each_writable
-
-    pub sharing_good : (t : Text) → t ≢ [] → AllByRecursion IsGood (group_entries (alike h) (sharers shared (alike h) ts t))
-    sharing_good t some = group_good (sharers shared (alike h) ts t) (wanting h ts shared named t) (sharing_writable t)
-        (each (λ c. (answer_to h c).email ≢ []) (group h ts shared named t) (λ c i. has_email (answer_to h c) (λ e. some (sym (from_group h ts shared named t c i).1 ∙ e))))
-
 -- by emails, and so by names after them
 email_some : (a : Contact) → email_shared a ≢ [] → a.email ≢ []
 email_some a some e = some (ap folded e)
-
-more_writable : (h : List Mapping) (ts : List Tally) → AllByRecursion IsWritable h → Each IsWritableContact ts → AllByRecursion IsWritable (h ++ email_entries (alike h) ts)
-more_writable h ts writable each = all_append IsWritable h (email_entries (alike h) ts) writable (all_joined IsWritable (group_entries (alike h)) (groups email_shared (alike h) ts)
-    (each_group email_shared h ts (λ g. AllByRecursion IsWritable (group_entries (alike h) g)) (λ t some. all_weaker (group_entries (alike h) (sharers email_shared (alike h) ts t)) (λ e good. good.0)
-    (sharing_good h writable ts email_shared email_some each t some))))
 
 -- ==== the text of suggestions is read as their entries
 
@@ -374,9 +304,17 @@ both_said s t es fs first second n rest =
     let b = second a.0 rest in
     (b.0, ap (said n) (append_assoc s t rest) ∙ a.1 ∙ ap (λ l. es ++ l) b.1 ∙ sym (append_assoc es fs (said b.0 rest)))
 
-all_said : {X : Type 0} (text : X → Text) (es : X → List Mapping) (xs : List X) → AllByRecursion (λ x. Says (text x) (es x)) xs → Says (flat_map text xs) (flat_map es xs)
-all_said text es [] all = λ n rest. (n, refl)
-all_said text es (x ∷ xs) all = both_said (text x) (flat_map text xs) (es x) (flat_map es xs) all.0 (all_said text es xs all.1)
+-- what marked lines say is nothing
+abbrev unless_marked : Bool → List Mapping → List Mapping
+unless_marked b es = if b then [] else es
+
+both_unmarked : (b : Bool) (es fs : List Mapping) → unless_marked b es ++ unless_marked b fs ≡ unless_marked b (es ++ fs)
+both_unmarked b es fs = grind arith
+
+all_said : {X : Type 0} (b : Bool) (text : X → Text) (es : X → List Mapping) (xs : List X) → AllByRecursion (λ x. Says (text x) (unless_marked b (es x))) xs → Says (flat_map text xs) (unless_marked b (flat_map es xs))
+all_said b text es [] all = λ n rest. (n, grind arith)
+all_said b text es (x ∷ xs) all = subst (Says (text x ++ flat_map text xs)) (both_unmarked b (es x) (flat_map es xs))
+    (both_said (text x) (flat_map text xs) (unless_marked b (es x)) (unless_marked b (flat_map es xs)) all.0 (all_said b text es xs all.1))
 
 -- what a line says
 abbrev of_reading : Option Reading → List Mapping
@@ -427,89 +365,106 @@ count_said is_gits t w = line_said (count_line is_gits t.seen.count t.contact) [
 body_line : (e : Mapping) → IsWritable e → HoldsNo 10 (entry_line e)
 body_line e w = search (rules, one_line)
 
-abbrev unless_marked : Bool → List Mapping → List Mapping
-unless_marked b es = if b then [] else es
-
 entry_said : (b : Bool) (e : Mapping) → IsGood e → Says (mark b ++ entry_line e ++ 10 ∷ []) (unless_marked b (e ∷ []))
 entry_said true e g = line_said (mark true ++ entry_line e) [] (omega arith, (omega arith, body_line e g.0)) (λ n. refl)
 entry_said false e g = line_said (entry_line e) (e ∷ []) (body_line e g.0) (λ n. ap of_reading (entry_read n e g.0 g.1).0)
 
 -- ---- lists of lines
 
-counts_said : (is_gits : Bool) (ts : List Tally) → AllByRecursion (λ t. IsWritableContact t.contact) ts → Says (count_lines is_gits ts) []
-counts_said is_gits ts all = subst (Says (count_lines is_gits ts)) (no_part (λ _. []) ts (all_of _ (λ _. refl) ts))
-    (all_said (λ t. count_line is_gits t.seen.count t.contact ++ 10 ∷ []) (λ t. []) ts (all_weaker ts (λ t w. count_said is_gits t w) all))
+counts_said : (is_gits : Bool) (ts : List Tally) → Each IsWritableContact ts → Says (count_lines is_gits ts) []
+counts_said is_gits ts all = all_said true (λ t. count_line is_gits t.seen.count t.contact ++ 10 ∷ []) (λ _. []) ts (all_weaker ts (count_said is_gits) all)
 
-single_joined : (b : Bool) (es : List Mapping) → flat_map (λ e. unless_marked b (e ∷ [])) es ≡ unless_marked b es
-single_joined b [] = search rules
-single_joined b (e ∷ es) = search (rules, single_joined b es)
+single : (es : List Mapping) → flat_map (λ e. e ∷ []) es ≡ es
+single [] = refl
+single (e ∷ es) = ap (λ l. e ∷ l) (single es)
 
 entries_said : (b : Bool) (es : List Mapping) → AllByRecursion IsGood es → Says (entry_lines b es) (unless_marked b es)
-entries_said b es all = subst (Says (entry_lines b es)) (single_joined b es)
-    (all_said (λ e. mark b ++ entry_line e ++ 10 ∷ []) (λ e. unless_marked b (e ∷ [])) es (all_weaker es (λ e g. entry_said b e g) all))
+entries_said b es all = subst (λ l. Says (entry_lines b es) (unless_marked b l)) (single es)
+    (all_said b (λ e. mark b ++ entry_line e ++ 10 ∷ []) (λ e. e ∷ []) es (all_weaker es (entry_said b) all))
 
--- ---- what is written can be written
+-- ---- groups that share a text
 
 each_ranked : (P : Contact → Type 0) (n : ℕ) (ts : List Tally) → Each P ts → Each P (ranked n ts)
 each_ranked P n [] all = tt
 each_ranked P n (t ∷ ts) all = (all.0, each_ranked P (n + 1) ts all.1)
 
-module _ (h : List Mapping) (writable : AllByRecursion IsWritable h) (g : List Tally) (each : Each IsWritableContact g) where
-  each_answer : Each IsWritableContact (counted_answers (alike h) g)
-  each_answer = each_counted IsWritableContact h g (all_mapped (λ t. t.contact) (λ c. IsWritableContact (answer_to h c)) g (all_weaker g (λ t w. answer_writable h t.contact writable w) each))
+module _ (h : List Mapping) (writable : AllByRecursion IsWritable h) (ts : List Tally) (each_writable : Each IsWritableContact ts) (shared : Contact → Text) (has_email : (a : Contact) → shared a ≢ [] → a.email ≢ []) where
+  abbrev named : AllByRecursion HasNoEmptyName h
+  named = writable_named h writable
 
-  -- what is counted, or ranked, stays as it is
-  all_counted : (ts : List Tally) → Each IsWritableContact ts → Each IsWritableContact (by_frequency (tallied ts))
-  all_counted ts all = all_by_frequency (λ t. IsWritableContact t.contact) (tallied ts) (each_tallied IsWritableContact ts all)
+  abbrev gs : List (List Tally)
+  gs = groups shared (alike h) ts
 
-  each_git_answer : Each IsWritableContact (counted_git_answers (alike h) g)
-  each_git_answer =
-      let differs = λ (t : Tally). not (same_contact (git_answer_to h t.contact) (answer_to h t.contact)) in
-      let others = other_git_answers (alike h) (by_frequency (tallied g)) in
-      all_counted (ranked 1 others) (each_ranked IsWritableContact 1 others
-      (all_mapped (git_answered (alike h)) (λ t. IsWritableContact t.contact) (filter differs (by_frequency (tallied g)))
-      (all_filtered differs (λ t. IsWritableContact t.contact) (λ t. IsWritableContact (git_answer_to h t.contact)) (λ t w _. git_writable h t.contact writable w) (by_frequency (tallied g)) (all_counted g each))))
+  module _ (t : Text) where
+    abbrev g : List Tally
+    g = sharers shared (alike h) ts t
 
-  group_said : (b : Bool) → AllByRecursion IsGood (group_entries (alike h) g) → Says (group_text (alike h) b g) (unless_marked b (group_entries (alike h) g))
-  group_said b good =
-      let es = unless_marked b (group_entries (alike h) g) in
-      let a = count_lines false (counted_answers (alike h) g) in
-      let d = count_lines true (counted_git_answers (alike h) g) in
-      let lines = entry_lines b (group_entries (alike h) g) in
-      subst (Says (group_text (alike h) b g)) (append-nil es)
-      (both_said (a ++ d ++ lines) (10 ∷ []) es [] (both_said (a ++ d) lines [] es (both_said a d [] [] (counts_said false (counted_answers (alike h) g) each_answer) (counts_said true (counted_git_answers (alike h) g) each_git_answer)) (entries_said b (group_entries (alike h) g) good))
-      (line_said [] [] tt (λ n. ap (λ t. of_reading (unless_blank line_reading n t)) trim-nil)))
+    abbrev to : Contact
+    to = proper_answer (alike h) g
+
+    each_member : Each IsWritableContact g
+    each_member = all_filtered (λ u. bytes_eq t (shared (answer_to h u.contact))) (λ u. IsWritableContact u.contact) (λ u. IsWritableContact u.contact) (λ u w _. w) ts each_writable
+
+    all_members : AllByRecursion IsWritableContact (contacts g)
+    all_members = all_mapped (λ u. u.contact) IsWritableContact g each_member
+
+    each_git_answer : Each IsWritableContact (counted_git_answers (alike h) g)
+    each_git_answer =
+        let differs = λ (t : Tally). not (same_contact (git_answer_to h t.contact) (answer_to h t.contact)) in
+        let all = by_frequency (tallied g) in
+        counted_each IsWritableContact (ranked 1 (other_git_answers (alike h) all)) (each_ranked IsWritableContact 1 (other_git_answers (alike h) all)
+        (all_mapped (git_answered (alike h)) (λ t. IsWritableContact t.contact) (filter differs all) (all_filtered differs (λ t. IsWritableContact t.contact) (λ t. IsWritableContact (git_answer_to h t.contact))
+        (λ t w _. (answers_writable h t.contact writable w).1) all (counted_each IsWritableContact g each_member))))
+
+    good : t ≢ [] → AllByRecursion IsGood (group_entries (alike h) g)
+    good some = (entries_all h named to IsGood (contacts g) (each (λ c. IsWanting h to c × OfNeeded IsGood to h c) (contacts g) (λ c i.
+        let d = proper_comes h g c i in
+        let fits : IsWritableContact to = subst IsWritableContact d.2 (answers_writable h d.0 writable (at IsWritableContact (contacts g) all_members d.0 d.1)).0 in
+        let email : to.email ≢ [] = subst (λ a. a.email ≢ []) d.2 (has_email (answer_to h d.0) (λ e. some (sym (from_group h ts shared named t d.0 d.1).1 ∙ e))) in
+        let w : IsWritableContact c = at IsWritableContact (contacts g) all_members c i in (
+          at (IsWanting h to) (contacts g) (wanting h ts shared named t) c i,
+          (
+            ((λ named _. search rules), search rules),
+            λ owned.
+                let named : c.name ≢ [] = λ empty. owned (unnamed_own h c writable empty) in search rules,
+          ),
+        )))).1
+
+    said_by_group : (b : Bool) → t ≢ [] → Says (group_text (alike h) b g) (unless_marked b (group_entries (alike h) g))
+    said_by_group b some =
+        let es = unless_marked b (group_entries (alike h) g) in
+        let a = count_lines false (counted_answers (alike h) g) in
+        let d = count_lines true (counted_git_answers (alike h) g) in
+        let lines = entry_lines b (group_entries (alike h) g) in
+        let answers = each_counted IsWritableContact h g (all_weaker (contacts g) (λ c w. (answers_writable h c writable w).0) all_members) in
+        subst (Says (group_text (alike h) b g)) (append-nil es)
+        (both_said (a ++ d ++ lines) (10 ∷ []) es [] (both_said (a ++ d) lines [] es (both_said a d [] [] (counts_said false (counted_answers (alike h) g) answers) (counts_said true (counted_git_answers (alike h) g) each_git_answer)) (entries_said b (group_entries (alike h) g) (good some)))
+        (line_said [] [] tt (λ n. ap (λ t. of_reading (unless_blank line_reading n t)) trim-nil)))
+
+  all_good : AllByRecursion IsGood (all_entries shared (alike h) ts)
+  all_good = all_joined IsGood (group_entries (alike h)) gs (each_group shared h ts (λ g. AllByRecursion IsGood (group_entries (alike h) g)) good)
+
+  groups_said : (b : Bool) → Says (flat_map (group_text (alike h) b) gs) (unless_marked b (all_entries shared (alike h) ts))
+  groups_said b = all_said b (group_text (alike h) b) (group_entries (alike h)) gs
+      (each_group shared h ts (λ g. Says (group_text (alike h) b g) (unless_marked b (group_entries (alike h) g))) (λ t. said_by_group t b))
 
 -- ---- the whole text
 
-marked_joined : {X : Type 0} (b : Bool) (es : X → List Mapping) (xs : List X) → flat_map (λ x. unless_marked b (es x)) xs ≡ unless_marked b (flat_map es xs)
-marked_joined true es xs = no_part (λ _. []) xs (all_of _ (λ _. refl) xs)
-marked_joined false es xs = refl
-
-module _ (ts : List Tally) (each : Each IsWritableContact ts) where
-  groups_said : (h : List Mapping) → AllByRecursion IsWritable h → (shared : Contact → Text) → ((a : Contact) → shared a ≢ [] → a.email ≢ []) → (b : Bool)
-      → Says (flat_map (group_text (alike h) b) (groups shared (alike h) ts)) (unless_marked b (all_entries shared (alike h) ts))
-  groups_said h writable shared has_email b =
-      let gs = groups shared (alike h) ts in
-      subst (Says (flat_map (group_text (alike h) b) gs)) (marked_joined b (group_entries (alike h)) gs)
-      (all_said (group_text (alike h) b) (λ g. unless_marked b (group_entries (alike h) g)) gs
-      (each_group shared h ts (λ g. Says (group_text (alike h) b g) (unless_marked b (group_entries (alike h) g)))
-      (λ t some. group_said h writable (sharers shared (alike h) ts t) (sharing_writable h writable ts shared has_email each t) b (sharing_good h writable ts shared has_email each t some))))
-
-  text_said : (h : List Mapping) → AllByRecursion IsWritable h → (b : Bool) → mappings_of (text_by b (alike h) ts) ≡ email_entries (alike h) ts ++ unless_marked b (name_entries (alike h) ts)
-  text_said h writable b =
-      let more = h ++ email_entries (alike h) ts in
-      let first = flat_map (group_text (alike h) false) (groups email_shared (alike h) ts) in
-      let second = flat_map (group_text (alike more) b) (groups name_shared (alike more) ts) in
-      says_whole (first ++ second) (email_entries (alike h) ts ++ unless_marked b (name_entries (alike h) ts))
-      (both_said first second (email_entries (alike h) ts) (unless_marked b (name_entries (alike h) ts)) (groups_said h writable email_shared email_some false)
-      (groups_said more (more_writable h ts writable each) name_shared (λ a some e. some_email a some (ap folded e)) b))
+text_said : (h : List Mapping) (ts : List Tally) → AllByRecursion IsWritable h → Each IsWritableContact ts → (b : Bool) → mappings_of (text_by b (alike h) ts) ≡ email_entries (alike h) ts ++ unless_marked b (name_entries (alike h) ts)
+text_said h ts writable each b =
+    let emails = email_entries (alike h) ts in
+    let more = h ++ emails in
+    let first = flat_map (group_text (alike h) false) (groups email_shared (alike h) ts) in
+    let second = flat_map (group_text (alike more) b) (groups name_shared (alike more) ts) in
+    let written = all_append IsWritable h emails writable (all_weaker emails (λ e good. good.0) (all_good h writable ts each email_shared email_some)) in
+    says_whole (first ++ second) (emails ++ unless_marked b (name_entries (alike h) ts)) (both_said first second emails (unless_marked b (name_entries (alike h) ts))
+    (groups_said h writable ts each email_shared email_some false) (groups_said more written ts each name_shared (λ a some. email_some a (some_email a some)) b))
 
 pub suggested_said : (h : List Mapping) (ts : List Tally) → AllByRecursion IsWritable h → Each IsWritableContact ts → mappings_of (suggested_text (alike h) ts) ≡ email_entries (alike h) ts
-suggested_said h ts writable each = text_said ts each h writable true ∙ append-nil (email_entries (alike h) ts)
+suggested_said h ts writable each = text_said h ts writable each true ∙ append-nil (email_entries (alike h) ts)
 
 pub reviewed_said : (h : List Mapping) (ts : List Tally) → AllByRecursion IsWritable h → Each IsWritableContact ts → mappings_of (reviewed_text (alike h) ts) ≡ email_entries (alike h) ts ++ name_entries (alike h) ts
-reviewed_said h ts writable each = text_said ts each h writable false
+reviewed_said h ts writable each = text_said h ts writable each false
 
 -- ---- contacts of lines can be written
 

@@ -16,8 +16,9 @@ use Rattle.mailmap_suggestions.specs.Forms.{Histories, distinct, git_answer_to, 
 use Rattle.std.specs.BTreeSet.{contains}
 use Rattle.std.specs.Option.{option_copied, option_to_list}
 use Rattle.mailmap_entries.specs.Entries.{Mapping, mapping_of}
-use Rattle.mailmap_entries.specs.Semantics.{Fields, given_fields, is_accepted, key, last_fields, spelling}
+use Rattle.mailmap_entries.specs.Semantics.{Fields, given_fields, is_accepted, key, last_fields, no_fields, spelling}
 use Rattle.mailmap_entries.specs.declared.entry.Entry.{Entry}
+use Rattle.mailmap_redundancy.specs.Numbers.{fields_of}
 use Rattle.mailmap_suggestions.specs.declared.changes.Changes.{Changes}
 
 abbrev pub shared_by : Shared → Contact → Text
@@ -67,13 +68,21 @@ contacts_of ts = contacts (map tally_of ts)
 abbrev pub HaveEmail : Text → List Contact → Type 0
 HaveEmail email cs = AllByRecursion (λ c. folded c.email ≡ email) cs
 
+-- these contacts have one old email, ASCII case aside
+abbrev pub HaveOneEmail : List Contact → Type 0
+HaveOneEmail cs = (email : Text) × HaveEmail email cs
+
+-- as the contacts of each part of a group
+abbrev pub IsPart : Vec TheTally → Type 0
+IsPart part = HaveOneEmail (contacts (tallies_in part))
+
 -- ---- entries
 
 -- an entry, if there is one
 abbrev pub listed : Option Entry → List Mapping
 listed e = option_to_list (option_map mapping_of e)
 
--- an entry for this old email and any old name
+-- an accepted entry for this old email, without an old name
 abbrev pub IsPlain : Text → Mapping → Type 0
 IsPlain email x = (is_accepted x ≡ true) × (key x ≡ (email, None))
 
@@ -81,8 +90,9 @@ IsPlain email x = (is_accepted x ≡ true) × (key x ≡ (email, None))
 abbrev pub fields_to : Contact → Fields
 fields_to to = record { name = name_unless_empty to; email = Some to.email }
 
+-- the new fields for contacts without entries of their own
 abbrev pub given_in : Changes → Fields
-given_in a = record { name = option_copied a.new_name; email = option_copied a.new_email }
+given_in a = unwrap_or (option_map fields_of a.given) no_fields
 
 -- what these entries change for this old email: the fields of those without an old name, the old names of the others,
 -- which make `to` the answer, and the spelling of the email
@@ -103,7 +113,7 @@ after a to t before has_own is_spelled =
     else (if has_own then before else replaced (given_in a) (record { name = before.name; email = unwrap_or spelling before.email }))
 
 -- whether this library and git both answer a contact by `to` then
-abbrev pub are_enough : Changes → Histories → Contact → TheTally → Bool
+unfoldable pub are_enough : Changes → Histories → Contact → TheTally → Bool
 are_enough a h to t =
     let c = (tally_of t).contact in
     same_contact (after a to t (answer_to h.ours c) (is_some (last_fields h.ours (own_key c))) (is_some (spelling h.ours (folded c.email)))) to

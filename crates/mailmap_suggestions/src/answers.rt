@@ -150,8 +150,8 @@ pub fn other_git_answers<'a>(
     answers.others_of_git(alloc, &contacts.in_order(alloc)?)
 }
 
-// The contact with its fields overridden.
-fn with_fields<'a>(contact: &Tally<'a>, fields: Option<Fields<'a>>) -> Tally<'a>
+/// The contact with its fields overridden.
+pub(crate) fn with_fields<'a>(contact: &Tally<'a>, fields: Option<Fields<'a>>) -> Tally<'a>
     ensures { tally_of result ≡ record {
       contact = replaced (unwrap_or (option_map fields_of fields.entry) no_fields) (tally_of contact.now).contact;
       seen = (tally_of contact.now).seen;

@@ -4,16 +4,17 @@ ghost use Rattle.std.specs.List.{AllByRecursion, list_all};
 ghost use Rattle.std.specs.Option.{option_copied};
 ghost use Rattle.mailmap_entries.specs.Entries.{Mapping};
 ghost use Rattle.mailmap_entries.specs.Folding.{Text, folded};
-ghost use Rattle.mailmap_contacts.specs.Answers.{tally_of};
 ghost use Rattle.mailmap_contacts.specs.Contacts.{Contact};
+ghost use Rattle.mailmap_contacts.specs.Answers.{tally_of};
 ghost use Rattle.mailmap_suggestions.specs.Private.{AreChangesBy, IsPlain, after, are_enough, listed};
 ghost use Rattle.mailmap_suggestions.specs.Forms.{name_unless_empty, named_form};
 
-use crate::answers::Answers;
+use crate::answers::{Answers, with_fields};
 use mailmap_contacts::answers::Tally;
 use mailmap_contacts::folded::Folded;
 use mailmap_contacts::proper::is_same;
 use mailmap_entries::Entry;
+use mailmap_redundancy::Fields;
 use std::alloc::{AllocError, Global};
 use std::collections::BTreeSet;
 
@@ -23,9 +24,8 @@ use std::collections::BTreeSet;
 /// A contact's answers after them follow from its answers before, so nothing is read anew to try them.
 #[derive(Drop)]
 pub(crate) struct Changes<'a> {
-    // the new fields of the entry without an old name
-    pub(crate) new_name: Option<&'a [u8]>,
-    pub(crate) new_email: Option<&'a [u8]>,
+    // the new fields of the entry without an old name, if it is there
+    pub(crate) given: Option<Fields<'a>>,
     // the old names of the others
     pub(crate) names: BTreeSet<Folded<'a>>,
     // the old email of the first of all
@@ -34,23 +34,24 @@ pub(crate) struct Changes<'a> {
 
 impl<'a> Changes<'a> {
     /// Those of an entry without an old name, or of no entry.
+    #[tactic(auto, using(crate::proofs::Appended::changes_plain))]
     pub(crate) fn new(alloc: Global, plain: Option<Entry<'a>>) -> Self
         ensures { (to : Contact) (email : Text) → AllByRecursion (IsPlain email) (listed plain.entry)
             → AreChangesBy to email (listed plain.entry) result }
     {
-        match plain {
-            Some(plain) => Changes {
-                new_name: plain.new_name(),
-                new_email: plain.new_email(),
-                names: BTreeSet::new(alloc),
-                spelling: Some(plain.old_email()),
-            },
-            None => Changes {
-                new_name: None,
-                new_email: None,
-                names: BTreeSet::new(alloc),
+        let names = BTreeSet::new(alloc);
+        let Some(plain) = plain else {
+            return Changes {
+                given: None,
+                names,
                 spelling: None,
-            },
+            };
+        };
+        let (name, email) = (plain.new_name(), plain.new_email());
+        Changes {
+            given: Some(Fields { name, email }),
+            names,
+            spelling: Some(plain.old_email()),
         }
     }
 
@@ -84,6 +85,7 @@ impl<'a> Changes<'a> {
     }
 
     /// Whether they both answer a contact so.
+    #[tactic(auto, unfolding(crate::specs::Private::are_enough))]
     pub(crate) fn are_enough(
         &self,
         answers: &Answers<'_, 'a>,
@@ -125,11 +127,7 @@ impl<'a> Changes<'a> {
         // the first entry for an email spells it
         let spelling = if is_spelled { None } else { self.spelling };
         let email = spelling.unwrap_or(before.email);
-        Tally {
-            name: self.new_name.unwrap_or(before.name),
-            email: self.new_email.unwrap_or(email),
-            seen: before.seen,
-        }
+        with_fields(&Tally { email, ..*before }, self.given)
     }
 }
 

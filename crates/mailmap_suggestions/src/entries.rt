@@ -1,11 +1,10 @@
 //! The entries by which contacts get one answer.
-ghost use Rattle.std.specs.Prelude.{◌≡◌, ◌++◌, IfOk, List, OnOk, filter, map, not};
-ghost use Rattle.mailmap_entries.specs.Entries.{Mapping, mapping_of};
-ghost use Rattle.mailmap_entries.specs.Folding.{Text};
+ghost use Rattle.std.specs.Prelude.{◌≡◌, IfOk, filter, map, not};
+ghost use Rattle.mailmap_entries.specs.Entries.{mapping_of};
 ghost use Rattle.mailmap_contacts.specs.Answers.{tally_of};
-ghost use Rattle.mailmap_suggestions.specs.Private.{AreChangesBy, HaveEmail, contacts_of, listed};
+ghost use Rattle.mailmap_suggestions.specs.Private.{HaveOneEmail, contacts_of, listed};
 ghost use Rattle.mailmap_suggestions.specs.Forms.{entries_for_email, entries_to, fits, has_own_entry, long_form};
-ghost use Rattle.mailmap_suggestions.specs.Forms.{named_entries, named_form, plain_entries, plus};
+ghost use Rattle.mailmap_suggestions.specs.Forms.{named_form, plain_entries};
 
 use crate::answers::Answers;
 use crate::changes::{Changes, name_unless_empty};
@@ -27,35 +26,34 @@ pub(crate) fn entries_to<'a>(
 {
     let mut entries = Vec::new(alloc);
     for part in &by_old_email(alloc, group)? {
-        push_entries_for_email(alloc, answers, to, part, &mut entries)?;
+        entries.extend_from_slice(&entries_for_email(alloc, answers, to, part)?)?;
     }
     Ok(entries)
 }
 
-// Appends the entries that make `to` the answer to these contacts, who have one old email, ASCII case aside.
-fn push_entries_for_email<'a>(
+// The entries that make `to` the answer to these contacts, who have one old email, ASCII case aside: one without an old
+// name if they need it, and one with it for each contact that then isn't answered by `to` already.
+fn entries_for_email<'a>(
     alloc: Global,
     answers: &Answers<'_, 'a>,
     to: &Tally<'a>,
     contacts: &[Tally<'a>],
-    entries: &mut Vec<Entry<'a>>,
-) -> Result<(), AllocError>
-    ensures { OnOk result ((email : Text) → HaveEmail email (contacts_of contacts.now)
-        → map mapping_of entries.new.items ≡ map mapping_of entries.old.items
-        ++ entries_for_email answers.now (tally_of to.now).contact (contacts_of contacts.now)) }
+) -> Result<Vec<Entry<'a>>, AllocError>
+    requires { HaveOneEmail (contacts_of contacts.now) }
+    ensures { IfOk result (λ entries. map mapping_of entries.items
+        ≡ entries_for_email answers.now (tally_of to.now).contact (contacts_of contacts.now)) }
 {
     let plain = plain_entry(alloc, answers, to, &unowned(alloc, answers, contacts)?);
-    push_plain(entries, plain)?;
-    push_named_entries(answers, to, Changes::new(alloc, plain), contacts, entries)
-}
-
-fn push_plain<'a>(entries: &mut Vec<Entry<'a>>, plain: Option<Entry<'a>>) -> Result<(), AllocError>
-    ensures { OnOk result (map mapping_of entries.new.items ≡ map mapping_of entries.old.items ++ listed plain.entry) }
-{
-    if let Some(entry) = plain {
-        entries.push(entry)?;
+    let mut changes = Changes::new(alloc, plain);
+    let mut entries = Vec::from_slice(alloc, plain.as_slice())?;
+    for contact in contacts {
+        if changes.are_enough(answers, to, contact) {
+            continue;
+        }
+        changes.add_name(contact)?;
+        entries.push(named_form(to, contact))?;
     }
-    Ok(())
+    Ok(entries)
 }
 
 // Those without entries of their own, in this library and in git.
@@ -82,18 +80,16 @@ fn plain_entry<'a>(
     to: &Tally<'a>,
     contacts: &[Tally<'a>],
 ) -> Option<Entry<'a>>
-    ensures { (email : Text) → HaveEmail email (contacts_of contacts.now)
-        → listed result ≡ plain_entries answers.now (tally_of to.now).contact (contacts_of contacts.now) }
+    requires { HaveOneEmail (contacts_of contacts.now) }
+    ensures { listed result ≡ plain_entries answers.now (tally_of to.now).contact (contacts_of contacts.now) }
 {
     let first = contacts.first()?;
     if answers.are_answered(to, contacts) {
         return None;
     }
-    if !fits(to, first) {
-        return Some(long_form(to, first));
-    }
     let short = Entry::change_name_by_email(to.name, to.email);
-    if Changes::new(alloc, Some(short)).are_enough_for_all(answers, to, contacts) {
+    let changes = Changes::new(alloc, Some(short));
+    if fits(to, first) && changes.are_enough_for_all(answers, to, contacts) {
         return Some(short);
     }
     Some(long_form(to, first))
@@ -126,29 +122,4 @@ fn named_form<'a>(to: &Tally<'a>, old: &Tally<'a>) -> Entry<'a>
         }
         None => Entry::change_email_by_name_and_email(to.email, old.name, old.email),
     }
-}
-
-// ---- contacts that need entries of their own
-
-// Appends an entry for each contact that isn't answered by `to` already.
-fn push_named_entries<'a>(
-    answers: &Answers<'_, 'a>,
-    to: &Tally<'a>,
-    mut changes: Changes<'a>,
-    contacts: &[Tally<'a>],
-    entries: &mut Vec<Entry<'a>>,
-) -> Result<(), AllocError>
-    ensures { OnOk result ((email : Text) (plain : List Mapping) → HaveEmail email (contacts_of contacts.now)
-        → AreChangesBy (tally_of to.now).contact email plain changes.entry
-        → map mapping_of entries.new.items ≡ map mapping_of entries.old.items
-        ++ named_entries (plus answers.now plain) (tally_of to.now).contact (contacts_of contacts.now)) }
-{
-    for contact in contacts {
-        if changes.are_enough(answers, to, contact) {
-            continue;
-        }
-        entries.push(named_form(to, contact))?;
-        changes.add_name(contact)?;
-    }
-    Ok(())
 }

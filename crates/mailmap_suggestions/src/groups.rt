@@ -1,8 +1,8 @@
 //! Puts the contacts of a history into groups.
-ghost use Rattle.std.specs.Prelude.{◌≡◌, ◌++◌, [], IfOk, OnOk, bytes_eq, filter, map, not, option_to_list};
+ghost use Rattle.std.specs.Prelude.{◌≡◌, ◌++◌, [], All, IfOk, OnOk, bytes_eq, filter, map, not, option_to_list};
 ghost use Rattle.mailmap_entries.specs.Folding.{folded};
 ghost use Rattle.mailmap_contacts.specs.Answers.{tally_of};
-ghost use Rattle.mailmap_suggestions.specs.Private.{contacts_of, HasMembers, grouped, has_key, keyed_by, keyed_of};
+ghost use Rattle.mailmap_suggestions.specs.Private.{contacts_of, HasMembers, IsPart, grouped, has_key, keyed_by, keyed_of};
 ghost use Rattle.mailmap_suggestions.specs.Private.{shared_by, tallies_in, text_of};
 ghost use Rattle.mailmap_suggestions.specs.Forms.{distinct, of_old_email};
 ghost use Rattle.mailmap_suggestions.specs.GroupEntries.{contacts, groups};
@@ -36,9 +36,10 @@ pub(crate) fn groups_of<'a>(
 
 /// The contacts of a group by their old emails, ASCII case aside, in the order of first occurrence.
 pub(crate) fn by_old_email<'a>(alloc: Global, group: &[Tally<'a>]) -> Result<Groups<'a>, AllocError>
-    ensures { IfOk result (λ parts. map (λ p. contacts (tallies_in p)) parts.items
+    ensures whole { IfOk result (λ parts. map (λ p. contacts (tallies_in p)) parts.items
         ≡ map (λ email. of_old_email email (contacts_of group.now))
         (distinct (map (λ c. folded c.email) (contacts_of group.now)))) }
+    ensures each { IfOk result (λ parts. All IsPart parts.items) }
 {
     let mut keyed = Vec::with_capacity(alloc, group.len())?;
     for contact in group {

@@ -1,6 +1,6 @@
 //! Laws of answers when entries are appended. These functions do nothing: the contract of each is a law.
 ghost use Rattle.std.specs.List.{AllByRecursion, flat_map};
-ghost use Rattle.std.specs.Prelude.{◌≡◌, ◌≢◌, ◌⊎◌, ◌++◌, ◌∷◌, [], ℕ, Bool, IsSome, List, None, Ok, Some, true};
+ghost use Rattle.std.specs.Prelude.{◌≡◌, ◌⊎◌, ◌++◌, ◌∷◌, [], ℕ, Bool, IsSome, List, None, Ok, Some, true};
 ghost use Rattle.mailmap_entries.specs.Entries.{Mapping, mapping};
 ghost use Rattle.mailmap_entries.specs.Folding.{Text, folded};
 ghost use Rattle.mailmap_entries.specs.Semantics.{is_accepted, key, last_fields, spelling};
@@ -85,6 +85,7 @@ pub fn law_suggested_lines()
 /// The text of suggestions is read as the entries for emails, and with its marks deleted as all entries. This holds for
 /// mappings and contacts that are read from lines, since lines can hold them. It is what suggestions are as text, one
 /// after another.
+#[tactic(auto, using(crate::proofs::United::suggested_said, crate::proofs::United::reviewed_said, mailmap_snapshot::proofs::WritableLines::all_read, crate::proofs::United::lines_writable, crate::proofs::Forms::suggestions_said))]
 pub fn law_suggested_text()
     ensures suggested { (h : List Mapping) (ts : List Tally) → AllByRecursion IsWritable h
         → AllByRecursion (λ t. IsWritableContact t.contact) ts

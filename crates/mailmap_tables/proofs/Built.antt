@@ -1,6 +1,6 @@
 -- Tables that are built of a sorted batch, email by email.
 use Rattle.std.proofs.Common.{◌≡◌, ◌≢◌, ◌<◌, ◌≤◌, ℕ, zero, suc, List, [], ◌∷◌, ◌++◌, map, take, drop, length, All}
-use Rattle.std.proofs.Common.{Contains, HoldsAt, Less, Some, append-nil, append_assoc, take-append-drop, true, false}
+use Rattle.std.proofs.Common.{Contains, HoldsAt, get_or, Less, Some, append-nil, append_assoc, take-append-drop, true, false}
 use Rattle.std.proofs.Common.{refl, sym, ap, subst, ◌∙◌, arith}
 use Rattle.std.specs.Cmp.{tied_itself}
 use Rattle.std.specs.Cmp.Lexicographic.{nat_list_cmp_total}
@@ -14,26 +14,22 @@ use Rattle.std.proofs.lemmas.List.Sorted.{All-permutation}
 use Rattle.std.proofs.lemmas.Map.Lookups.{exact_bytes}
 use Rattle.mailmap_entries.specs.Entries.{Mapping}
 use Rattle.mailmap_entries.specs.Folding.{Text, text_cmp}
-use Rattle.mailmap_entries.specs.Semantics.{IsNormal, Key, is_accepted, key, key_cmp, of_key, spelling}
-use Rattle.mailmap_entries.proofs.Alike.{alike_back, same_normal}
-use Rattle.mailmap_entries.proofs.Normal.{normal_then}
+use Rattle.mailmap_entries.specs.Semantics.{Key, is_accepted, key, key_cmp, of_key, spelling}
 use Rattle.mailmap_entries.proofs.Parts.{all_append, all_head, all_map, all_mapped, all_tail, all_weaker, map_alike}
-use Rattle.mailmap_batches.specs.Batches.{IsAscending, IsSorted, email_text, first_email, indexed_mapping, mapping_at}
+use Rattle.mailmap_batches.specs.Batches.{IsAscending, IsSorted, email_at as by, email_text, indexed_mapping, mapping_at}
 use Rattle.mailmap_batches.specs.declared.indexed.IndexedEntry.{IndexedEntry}
 use Rattle.mailmap_batches.proofs.Numbered.{mapped_twice, numbered}
 use Rattle.mailmap_batches.proofs.Respelled.{alike_respelled, least_spells, respelled}
-use Rattle.mailmap_tables.specs.Groups.{AreGroups, EmailGroup, listing}
-use Rattle.mailmap_tables.specs.Put.{AreAccepted, with_email}
-use Rattle.mailmap_tables.proofs.Grouped.{apart_less, groups_normal, no_groups}
+use Rattle.mailmap_tables.specs.Groups.{EmailGroup, listing}
+use Rattle.mailmap_tables.specs.Put.{AreAccepted, Represent, with_email}
+use Rattle.mailmap_tables.proofs.Grouped.{apart_less, no_groups}
+use Rattle.mailmap_tables.proofs.Merged.{none_put, put_alike, put_more}
 
 contains_mapped : {X Y : Type 0} (f : X → Y) (xs : List X) (x : X) → Contains xs x → Contains (map f xs) (f x)
 contains_mapped f xs x c =
     (c.0, omega (arith, c.1, length-map xs f), get_or-map f xs c.0 x (f x) c.1 ∙ ap f c.2)
 
 -- ---- the entries after those for an email have other emails
-
-abbrev by : IndexedEntry → Text
-by p = email_text (mapping_at p)
 
 less_if_other : (f x : Text) → is_lt (text_cmp x f) ≡ false → x ≢ f → text_cmp f x ≡ Less
 less_if_other f x e other = grind (arith, common_steps, exact_bytes, nat_list_cmp_total)
@@ -77,8 +73,7 @@ pub record AreBuilt (xs : List Mapping) (batch left : List IndexedEntry) (gs : L
   pub ascending : IsAscending text_cmp (map by left)
   pub apart : AllByRecursion (λ p. AllByRecursion (λ q. by p ≢ by q) left) passed
   pub accepted : AllByRecursion IsGood left
-  pub groups : AreGroups gs
-  pub normal : IsNormal (map (respelled_at xs) passed) (listing gs)
+  pub put : Represent (map (respelled_at xs) passed) gs
 
 not_lt_emails : (a b : Mapping) → is_lt (key_cmp (key a) (key b)) ≡ false
     → is_lt (text_cmp (email_text a) (email_text b)) ≡ false
@@ -118,27 +113,27 @@ module _ {xs : List Mapping} {batch : List IndexedEntry} (good : AreAccepted xs)
         (All-permutation (λ p. is_accepted p.1 ≡ true) (enumerate_from 0 xs) (map indexed_mapping batch)
         sorted.keeps.moved (All-from_recursion _ _ (all_map (λ p. p.1) (λ m. is_accepted m ≡ true) (enumerate_from 0 xs)
         (subst AreAccepted (sym (numbered 0 xs)) good)))));
-    groups = no_groups;
-    normal = groups_normal [] no_groups;
+    put = none_put no_groups;
   }
 
   pub built_step : {left : List IndexedEntry} {gs hs : List EmailGroup} (n : ℕ) (e : IndexedEntry)
       → AreBuilt xs batch left gs → 0 < length left
-      → AllByRecursion (λ p. by p ≡ first_email (map mapping_at left)) (take n left)
-      → (n < length left → HoldsAt (λ p. by p ≢ first_email (map mapping_at left)) left n)
-      → Contains (take n left) e → All (λ (q : IndexedEntry). e.index ≤ q.index) (take n left) → AreGroups hs
-      → IsNormal (listing gs ++ map (λ p. with_email (mapping_at e).old_email (mapping_at p)) (take n left)) (listing hs)
+      → ((d : IndexedEntry) → All (λ p. by p ≡ by (get_or left 0 d)) (take n left))
+      → ((d : IndexedEntry) → n < length left → by (get_or left n d) ≢ by (get_or left 0 d))
+      → Contains (take n left) e → All (λ (q : IndexedEntry). e.index ≤ q.index) (take n left)
+      → Represent (listing gs ++ map (λ p. with_email (mapping_at e).old_email (mapping_at p)) (take n left)) hs
       → AreBuilt xs batch (drop n left) hs
-  built_step {left = []} n e st some same other among first are done = absurd (omega arith)
-  built_step {left = x ∷ left} {gs = gs} {hs = hs} n e st some same other among first are done =
+  built_step {left = []} n e st some same other among first done = absurd (omega arith)
+  built_step {left = x ∷ left} {gs = gs} {hs = hs} n e st some same other among first done =
       let group = take n (x ∷ left) in
       let rest = drop n (x ∷ left) in
       let parts : x ∷ left ≡ group ++ rest = sym (take-append-drop n (x ∷ left)) in
       let whole : batch ≡ st.passed ++ (group ++ rest) = st.whole ∙ ap (λ l. st.passed ++ l) parts in
       let low : AllByRecursion (λ y. is_lt (text_cmp (by y) (by x)) ≡ false) (x ∷ left) =
       (ap is_lt (tied_itself nat_list_cmp_total (by x)), all_map by _ left st.ascending.0) in
-      let after : AllByRecursion (λ q. by x ≢ by q) rest = others_after (by x) (x ∷ left) n low st.ascending other in
-      let email : by e ≡ by x = All-contains (λ q. by q ≡ by x) group e (All-from_recursion _ group same) among in
+      let after : AllByRecursion (λ q. by x ≢ by q) rest = others_after (by x) (x ∷ left) n low st.ascending (λ lt d. other d lt) in
+      let email : by e ≡ by x = All-contains (λ q. by q ≡ by x) group e (same x) among in
+      let one = recursion_from_All (λ q. by q ≡ by x) group (same x) in
       let least : AllByRecursion (λ q. by q ≡ by e → e.index ≤ q.index) batch =
       rw whole (all_append _ st.passed (group ++ rest) (all_weaker st.passed (λ p no is. absurd (no.0 (is ∙ email))) st.apart)
       (all_append _ group rest (all_weaker group (λ q le _. le)
@@ -148,21 +143,19 @@ module _ {xs : List Mapping} {batch : List IndexedEntry} (good : AreAccepted xs)
       (contains_mapped indexed_mapping batch e (rw whole (Contains-append_right st.passed _ _
       (Contains-append_left group _ _ among))))
       (All-from_recursion _ _ (all_mapped indexed_mapping (λ q. email_text q.1 ≡ by e → e.index ≤ q.0) batch least)) in
-      let spelt = respelled_group xs e spells group (all_weaker group (λ p is. is ∙ sym email) same) in
+      let spelt = respelled_group xs e spells group (all_weaker group (λ p is. is ∙ sym email) one) in
       record {
         passed = st.passed ++ group;
         whole = whole ∙ sym (append_assoc st.passed group rest);
         ascending = ascending_drop n (x ∷ left) st.ascending;
         apart = all_append _ st.passed group
             (all_weaker st.passed (λ p no. all_tail _ group rest (subst (AllByRecursion (λ q. by p ≢ by q)) parts no))
-            st.apart) (all_weaker group (λ p is. all_weaker rest (λ q no same. no (sym is ∙ same)) after) same);
+            st.apart) (all_weaker group (λ p is. all_weaker rest (λ q no same. no (sym is ∙ same)) after) one);
         accepted = all_tail IsGood group rest (subst (AllByRecursion IsGood) parts st.accepted);
-        groups = are;
-        normal = rw (map-append (respelled_at xs) st.passed group) (normal_then (map (respelled_at xs) st.passed)
-            (listing gs) _ (listing hs) st.normal (rw spelt at done));
+        put = rw (map-append (respelled_at xs) st.passed group) (put_more _ _ gs hs st.put (rw spelt at done));
       }
 
-  pub built_end : {gs : List EmailGroup} → AreBuilt xs batch [] gs → IsNormal xs (listing gs)
+  pub built_end : {gs : List EmailGroup} → AreBuilt xs batch [] gs → Represent xs gs
   built_end {gs} st =
       let us = map mapping_at batch in
       let keyed : (k : Key) → of_key xs k ≡ of_key us k = λ k. sorted.keeps.keyed k
@@ -170,6 +163,4 @@ module _ {xs : List Mapping} {batch : List IndexedEntry} (good : AreAccepted xs)
       let all : map (respelled_at xs) st.passed ≡ map (respelled xs) us =
       ap (map (respelled_at xs)) (sym (st.whole ∙ append-nil st.passed))
       ∙ sym (mapped_twice mapping_at (respelled xs) batch) in
-      same_normal (map (respelled xs) us) xs (listing gs)
-      (alike_back xs (map (respelled xs) us) (alike_respelled [] xs us keyed))
-      (rw all at st.normal)
+      put_alike xs (map (respelled xs) us) gs (alike_respelled [] xs us keyed) (rw all at st.put)

@@ -346,13 +346,13 @@ no_groups = record { ascending = tt; each = tt }
 
 -- ---- the entries of a listing that are left, step by step
 
-module _ (t : Contents) (email : Text) (ns : List RowTexts) (i : ℕ) (none : ns ≡ []) where
-  -- without a name left, the next email follows
-  pub next_email : (r : RowTexts) (rest : List RowTexts) → slice_get t.groups i ≡ Some (group_of t.pool r rest)
-      → left_to_list t email ns i ≡ unnamed_entries (group_of t.pool r []) ++ left_to_list t (spelled t.pool (old_span r)) rest
-      (i + 1)
-  next_email r rest read =
-      let g : EmailGroup = group_of t.pool r rest in
-      let lt : i < length t.groups = slice_get_within t.groups i g read in
-      rw (none, drop_more t.groups i g lt, get_or_from_slice_get t.groups i g g read)
-      (append_assoc (unnamed_entries g) (map (name_entry g.old_email) g.names) (listing (drop (i + 1) t.groups)))
+-- without a name left, the next email follows: its own entry, if there is one, and its names
+pub next_email : (t : Contents) (email : Text) (ns : List RowTexts) (i : ℕ) (r : RowTexts) (rest : List RowTexts)
+    (own : List Mapping) (next : Text) → ns ≡ [] → slice_get t.groups i ≡ Some (group_of t.pool r rest)
+    → own ≡ unnamed_entries (group_of t.pool r []) → next ≡ spelled t.pool (old_span r)
+    → left_to_list t email ns i ≡ own ++ left_to_list t next rest (i + 1)
+next_email t email ns i r rest own next none read own_is next_is =
+    let g : EmailGroup = group_of t.pool r rest in
+    let lt : i < length t.groups = slice_get_within t.groups i g read in
+    rw (none, own_is, next_is, drop_more t.groups i g lt, get_or_from_slice_get t.groups i g g read)
+    (append_assoc (unnamed_entries g) (map (name_entry g.old_email) g.names) (listing (drop (i + 1) t.groups)))

@@ -1,18 +1,18 @@
 -- Entries that are merged one after another, or after they were collected or combined.
 use Rattle.std.proofs.lemmas.Grind.{common_steps}
 use Rattle.std.proofs.Common.{◌≡◌, ◌<◌, ◌+◌, ℕ, List, [], ◌∷◌, None, get_or, length, map, take, arith, ◌≢◌, ◌≤◌, ◌==◌}
-use Rattle.std.proofs.Common.{true, false, ◌++◌, append-nil, append_assoc, take_all, Option}
+use Rattle.std.proofs.Common.{true, false, ◌++◌, append-nil, append_assoc, Option}
 use Rattle.std.proofs.lemmas.List.{map_more}
 use Rattle.mailmap_entries.specs.Entries.{Mapping, mapping, mapping_of}
 use Rattle.mailmap_entries.specs.Folding.{Text}
 use Rattle.std.specs.Option.{option_or}
 use Rattle.mailmap_entries.proofs.Alike.{Alike, alike_itself, alike_joined, alike_back, same_normal}
 use Rattle.mailmap_entries.proofs.Joined.{alike_trans}
-use Rattle.mailmap_tables.specs.Put.{AreAccepted, with_email, IsPutInto}
+use Rattle.mailmap_tables.specs.Put.{AreAccepted, Represent, with_email}
 use Rattle.std.proofs.lemmas.Bool.Decides.{nat_tests}
 use Rattle.std.specs.Iterator.{Drains, Yields}
 use Rattle.mailmap_entries.specs.declared.entry.Entry.{Entry}
-use Rattle.mailmap_entries.specs.Semantics.{IsNormal, accepted, is_accepted}
+use Rattle.mailmap_entries.specs.Semantics.{accepted, is_accepted}
 use Rattle.mailmap_entries.proofs.Normal.{normal_then}
 use Rattle.mailmap_tables.specs.Groups.{AreGroups, EmailGroup, listing}
 use Rattle.mailmap_tables.proofs.Grouped.{groups_normal}
@@ -20,39 +20,29 @@ use Rattle.mailmap_tables.proofs.Grouped.{groups_normal}
 pub some_taken : (h : List Mapping) (m : Mapping) → is_accepted m ≡ true → accepted (h ++ m ∷ []) ≢ []
 some_taken h m good none = grind (arith, common_steps)
 
--- the groups of `new` are those of `old` and the first i entries
-pub record ArePut {X : Type 0} (f : X → Mapping) (xs : List X) (old : List EmailGroup) (i : ℕ) (new : List EmailGroup)
-    : Type 0 where
-  pub groups : AreGroups new
-  pub normal : IsNormal (listing old ++ map f (take i xs)) (listing new)
+-- ---- what groups represent
 
-pub none_put : {X : Type 0} (f : X → Mapping) (xs : List X) {gs : List EmailGroup} → AreGroups gs → ArePut f xs gs 0 gs
-none_put f xs {gs} are = record {
-  groups = are;
-  normal = rw append-nil (groups_normal gs are);
+pub none_put : {gs : List EmailGroup} → AreGroups gs → Represent (listing gs ++ []) gs
+none_put {gs} are = record { groups = are; normal = rw append-nil (groups_normal gs are) }
+
+pub put_more : (h more : List Mapping) (gs hs : List EmailGroup) → Represent h gs → Represent (listing gs ++ more) hs
+    → Represent (h ++ more) hs
+put_more h more gs hs before after = record {
+  groups = after.groups;
+  normal = normal_then h (listing gs) more (listing hs) before.normal after.normal;
 }
 
-module _ {X : Type 0} (f : X → Mapping) (xs : List X) {old new : List EmailGroup} where
-  pub start_put : {i index : ℕ} {m : Mapping} → Alike (map f (take i xs)) (m ∷ []) → IsPutInto m old index new
-      → ArePut f xs old i new
-  start_put {i} {m = m} alike put = record {
-    groups = put.groups;
-    normal = same_normal (listing old ++ m ∷ []) _ _ (alike_joined (listing old) _ (listing old) _
-        (alike_itself (listing old)) (alike_back _ _ alike)) put.normal;
-  }
+pub put_alike : (h g : List Mapping) (gs : List EmailGroup) → Alike h g → Represent g gs → Represent h gs
+put_alike h g gs alike put = record {
+  groups = put.groups;
+  normal = same_normal g h (listing gs) (alike_back h g alike) put.normal;
+}
 
-  pub one_put : {here : List EmailGroup} {i index : ℕ} (x : X) → i < length xs → x ≡ get_or xs i x
-      → ArePut f xs old i here → IsPutInto (f x) here index new → ArePut f xs old (i + 1) new
-  one_put {here} {i} x lt read before put = record {
-    groups = put.groups;
-    normal = rw (map_more f xs i x lt, ← read, ← append_assoc (listing old) (map f (take i xs)) (f x ∷ []))
-        (normal_then (listing old ++ map f (take i xs)) (listing here) (f x ∷ []) (listing new) before.normal put.normal);
-  }
-
-  pub all_put : {i : ℕ} → length xs ≤ i → ArePut f xs old i new
-      → AreGroups new × IsNormal (listing old ++ map f xs) (listing new)
-  all_put {i} le put =
-      (put.groups, rw (take_all i xs le) at put.normal)
+pub one_put : {X : Type 0} (f : X → Mapping) (xs : List X) (h : List Mapping) (gs hs : List EmailGroup) (i : ℕ) (x : X)
+    → i < length xs → x ≡ get_or xs i x → Represent (h ++ map f (take i xs)) gs → Represent (listing gs ++ f x ∷ []) hs
+    → Represent (h ++ map f (take (i + 1) xs)) hs
+one_put f xs h gs hs i x lt read before put =
+    rw (map_more f xs i x lt, ← read, ← append_assoc h (map f (take i xs)) (f x ∷ [])) (put_more _ _ gs hs before put)
 
 -- if some entry was collected, some was accepted
 pub some_accepted : {I : Type 0} (steps : I → Option Entry → I → Type 0) {first : I} (xs batch : List Entry)

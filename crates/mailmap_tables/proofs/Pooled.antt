@@ -20,7 +20,7 @@ module _ (a b : Text) (to : Extends a b) where
   pub spelled_on : (s : Span) → LiesIn (length a) s → spelled b s ≡ spelled a s
   spelled_on s lies = grind (arith, common_steps)
 
-  options_on : (o : Option Span) → ForSome o (LiesIn (length a)) → option_map (spelled b) o ≡ option_map (spelled a) o
+  pub options_on : (o : Option Span) → ForSome o (LiesIn (length a)) → option_map (spelled b) o ≡ option_map (spelled a) o
   options_on o lies = grind (arith, spelled_on)
 
   -- rows have the same texts

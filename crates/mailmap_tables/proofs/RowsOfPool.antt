@@ -1,20 +1,21 @@
 -- The texts of a row as spans of the pool.
-use Rattle.std.proofs.Common.{◌≡◌, ◌≤◌, ◌<◌, ◌+◌, ℕ, ◌++◌, length, Option, option_map, unwrap_or, ap, ◌∙◌, arith}
-use Rattle.std.proofs.Common.{length-append, [], append-nil, append_assoc}
-use Rattle.std.proofs.Math.Seq.{drop-append_seam, take-append_seam}
+use Rattle.std.proofs.Common.{◌≡◌, ◌≤◌, ◌<◌, ◌+◌, ℕ, ◌++◌, length, Option, Some, None, option_map, unwrap_or, ap}
+use Rattle.std.proofs.Common.{◌∙◌, arith, [], append_assoc, length-append}
+use Rattle.std.proofs.Math.Seq.{drop-append_seam}
 use Rattle.std.specs.Option.{ForSome}
 use Rattle.std.proofs.lemmas.Grind.{common_steps}
 use Rattle.std.proofs.lemmas.Bool.Decides.{nat_tests}
+use Rattle.std.proofs.lemmas.Option.{same_Some}
 use Rattle.mailmap_entries.specs.Folding.{Text}
 use Rattle.mailmap_entries.specs.Semantics.{Fields}
-use Rattle.mailmap_tables.specs.Pool.{Extends, IsRow, IsWithin, LiesIn, TextsInPool, name_group, spelled, stored_len}
+use Rattle.mailmap_tables.specs.Pool.{Extends, IsRow, IsStored, IsWithin, TextsInPool, name_group, spelled}
 use Rattle.mailmap_tables.specs.Pool.{text_of}
-use Rattle.mailmap_tables.specs.RowTexts.{byte_count, email_span, name_span, old_span, span_of}
+use Rattle.mailmap_tables.specs.RowTexts.{byte_count, email_span, name_span, span_of}
 use Rattle.mailmap_tables.specs.declared.texts.TheConstants.{NO_TEXT}
 use Rattle.mailmap_tables.specs.declared.texts.Source.{Source}
 use Rattle.mailmap_tables.specs.declared.texts.Source.TheVariants.{Given, Pool}
 use Rattle.mailmap_tables.specs.declared.texts.RowTexts.{RowTexts}
-use Rattle.mailmap_tables.proofs.Pooled.{fields_on, grown, spelled_on, texts_lie_on}
+use Rattle.mailmap_tables.proofs.Pooled.{grown, options_on, spelled_on}
 
 -- ---- a length
 
@@ -46,44 +47,49 @@ extends_through a b c p q = (p.0 ++ q.0, q.1 ∙ ap (λ t. t ++ q.0) p.1 ∙ app
 
 -- ---- a row of texts at the end of the pool
 
-abbrev bytes : Option Text → Text
-bytes o = unwrap_or o []
-
--- a text that is stored at a place
-record IsPlaced (whole : Text) (start len : ℕ) (o : Option Text) : Type 0 where
-  text : option_map (spelled whole) (span_of start len) ≡ o
-  lies : ForSome (span_of start len) (LiesIn (length whole))
-  count : byte_count len ≡ length (bytes o)
-
-placed : (whole before after : Text) (o : Option Text) (start len : ℕ) → length whole < NO_TEXT
-    → whole ≡ before ++ (bytes o ++ after) → start ≡ length before → len ≡ stored_len o → IsPlaced whole start len o
+pub stored : (old new text : Text) (len : ℕ) → new ≡ old ++ text → len ≡ length text → length new < NO_TEXT
+    → IsStored old new (Some text) len
 unfolding span_of byte_count
-placed whole before after o start len few parts from is =
-    grind (arith, common_steps, nat_tests, drop-append_seam, take-append_seam)
+stored old new text len is long few =
+    let some : len < NO_TEXT = omega (arith, ap length is, length-append old text) in
+    grind (arith, common_steps, nat_tests, drop-append_seam)
 
-pub row_appended : (pool whole old : Text) (name email : Option Text) (t : RowTexts) → length whole < NO_TEXT
-    → whole ≡ ((pool ++ old) ++ bytes name) ++ bytes email → t.start ≡ length pool → t.old_len ≡ length old
-    → t.new_name_len ≡ stored_len name → t.new_email_len ≡ stored_len email
-    → IsRow whole old (record { name = name; email = email }) t
+pub none_stored : (old : Text) → IsStored old old None NO_TEXT
+unfolding span_of byte_count
+none_stored old = grind (arith, common_steps, nat_tests)
+
+-- a stored text has its length
+some_stored : (old new text : Text) (len : ℕ) → IsStored old new (Some text) len
+    → (span_of (length old) len ≡ Some (record { start = length old; len = len })) × (byte_count len ≡ len)
+unfolding span_of byte_count
+some_stored old new text len s = let is = s.is in grind (arith, common_steps, nat_tests)
+
+-- a text stays stored while the pool grows
+stored_on : (old new later : Text) (text : Option Text) (len : ℕ) → Extends new later → IsStored old new text len
+    → option_map (spelled later) (span_of (length old) len) ≡ text
+stored_on old new later text len to s = options_on new later to (span_of (length old) len) s.lies ∙ s.is
+
+pub row_stored : (pool one two three old : Text) (name email : Option Text) (t : RowTexts) → t.start ≡ length pool
+    → Extends one two → Extends two three → IsStored pool one (Some old) t.old_len → IsStored one two name t.new_name_len
+    → IsStored two three email t.new_email_len → IsRow three old (record { name = name; email = email }) t
 unfolding name_span email_span
-row_appended pool whole old name email t few parts start old_len name_len email_len =
-    let head = pool ++ old in
-    let rest = bytes name ++ bytes email in
-    let after_old : whole ≡ head ++ rest = rw (← append_assoc head) parts in
-    let after_pool : whole ≡ pool ++ (old ++ rest) = rw (← append_assoc pool) after_old in
-    let its_name = placed whole head (bytes email) name (t.start + t.old_len) t.new_name_len few after_old
-    (omega (arith, length-append pool old)) name_len in
-    let its_email = placed whole (head ++ bytes name) [] email (t.start + t.old_len + byte_count t.new_name_len)
-    t.new_email_len few (rw append-nil parts)
-    (omega (arith, its_name.count, length-append pool old, length-append head (bytes name))) email_len in
+row_stored pool one two three old name email t start then last its_old its_name its_email =
+    let to = extends_through one two three then last in
+    let long = some_stored pool one old t.old_len its_old in
+    let name_at : t.start + t.old_len ≡ length one = omega (arith, its_old.next, long.1) in
+    let email_at : t.start + t.old_len + byte_count t.new_name_len ≡ length two = omega (arith, name_at, its_name.next) in
+    let name_is : option_map (spelled three) (name_span t) ≡ name =
+    rw name_at (stored_on one two three name t.new_name_len last its_name) in
+    let email_is : option_map (spelled three) (email_span t) ≡ email = rw email_at its_email.is in
+    let kept = stored_on pool one three (Some old) t.old_len to its_old in
     record {
       lies = record {
-        old = omega (arith, ap length after_pool, length-append pool (old ++ rest), length-append old rest);
-        new_name = its_name.lies;
-        new_email = its_email.lies;
+        old = omega (arith, name_at, grown one three to);
+        new_name = λ s at. omega (arith, its_name.lies s (rw name_at at at), grown two three last);
+        new_email = rw email_at its_email.lies;
       };
-      old_is = rw (old_len, start, after_pool, drop-append_seam) (take-append_seam old rest);
-      fields_are = λ i. record { name = its_name.text i; email = its_email.text i };
+      old_is = rw start (same_Some _ _ (rw long.0 at kept));
+      fields_are = λ i. record { name = name_is i; email = email_is i };
     }
 
 -- ---- a row as the name that it represents
@@ -91,10 +97,3 @@ row_appended pool whole old name email t few parts start old_len name_len email_
 pub name_of_row : (pool old : Text) (fields : Fields) (t : RowTexts) → IsRow pool old fields t → name_group pool t
     ≡ record { old_name = old; new_name = fields.name; new_email = unwrap_or fields.email [] }
 name_of_row pool old fields t row = grind arith
-
--- a row stays what it is in a pool that has grown
-pub row_on : (a b : Text) → Extends a b → (old : Text) (fields : Fields) (t : RowTexts) → IsRow a old fields t
-    → IsRow b old fields t
-row_on a b to old fields t row =
-    let old_is = spelled_on a b to (old_span t) row.lies.old in
-    grind (arith, texts_lie_on a b to t row.lies, old_is, fields_on a b to t row.lies)

@@ -1,5 +1,5 @@
 -- Texts in a pool of bytes, and tables whose rows say where their texts are in it.
-use Rattle.std.specs.Prelude.{◌≡◌, ◌<◌, ◌≤◌, ◌+◌, ◌^◌, ◌++◌, ℕ, List, [], Option, Some, None, IsSome, map, take, drop}
+use Rattle.std.specs.Prelude.{◌≡◌, ◌<◌, ◌≤◌, ◌+◌, ◌^◌, ◌++◌, ℕ, List, [], Option, IsSome, map, take, drop}
 use Rattle.std.specs.Prelude.{length, slice_set, unwrap_or}
 use Rattle.std.specs.Option.{option_map, ForSome}
 use Rattle.std.specs.List.{AllByRecursion}
@@ -8,8 +8,7 @@ use Rattle.mailmap_entries.specs.Prefixes.{key_prefix}
 use Rattle.mailmap_entries.specs.Semantics.{Fields}
 use Rattle.mailmap_entries.specs.Entries.{Mapping}
 use Rattle.mailmap_tables.specs.Groups.{Contents, EmailGroup, NameGroup, folded_email, listing, name_entry, name_total}
-use Rattle.mailmap_tables.specs.RowTexts.{old_span, name_span, email_span}
-use Rattle.mailmap_tables.specs.declared.texts.TheConstants.{NO_TEXT}
+use Rattle.mailmap_tables.specs.RowTexts.{byte_count, email_span, name_span, old_span, span_of}
 use Rattle.mailmap_tables.specs.declared.texts.Source.{Source}
 use Rattle.mailmap_tables.specs.declared.texts.Source.TheVariants.{Given, Pool}
 use Rattle.mailmap_tables.specs.declared.texts.Span.{Span}
@@ -102,6 +101,10 @@ contents pool rows = record { pool = pool; groups = map (row_group pool) rows }
 abbrev pub Extends : Text → Text → Type 0
 Extends old new = (more : Text) × (new ≡ old ++ more)
 
+-- only the pool has grown
+abbrev pub IsGrown : Contents → Contents → Type 0
+IsGrown old new = (more : Text) × (new ≡ record old { pool = old.pool ++ more })
+
 -- a text of the pool lies within its n bytes
 abbrev pub IsWithin : ℕ → Source → Type 0
 IsWithin n (Given t) = Unit {0}
@@ -111,10 +114,11 @@ abbrev pub text_of : Text → Source → Text
 text_of pool (Given t) = t.now
 text_of pool (Pool s) = spelled pool s
 
--- the length that a row stores for a text
-abbrev pub stored_len : Option Text → ℕ
-stored_len None = NO_TEXT
-stored_len (Some t) = length t
+-- a text, or none, was appended to the pool, with this length to store for it; the next text begins after it
+pub record IsStored (old new : Text) (text : Option Text) (len : ℕ) : Type 0 where
+  pub is : option_map (spelled new) (span_of (length old) len) ≡ text
+  pub lies : ForSome (span_of (length old) len) (LiesIn (length new))
+  pub next : length new ≡ length old + byte_count len
 
 -- a row with these texts, which lie in the pool
 pub record IsRow (pool : Text) (old : Text) (fields : Fields) (t : RowTexts) : Type 0 where

@@ -1,11 +1,12 @@
 -- What putting one entry into tables does.
-use Rattle.std.specs.Prelude.{◌≡◌, ◌++◌, ℕ, true, List, [], ◌∷◌}
+use Rattle.std.specs.Prelude.{◌≡◌, ◌++◌, ℕ, true, List, [], ◌∷◌, Option, None, Some, Result, unwrap_or}
 use Rattle.std.specs.List.{AllByRecursion}
+use Rattle.std.specs.Option.{option_map}
 use Rattle.mailmap_entries.specs.Entries.{Mapping}
 use Rattle.mailmap_entries.specs.Folding.{Text, folded}
-use Rattle.mailmap_entries.specs.Semantics.{IsNormal, is_accepted}
-use Rattle.mailmap_tables.specs.Groups.{AreGroups, EmailGroup, folded_email, listing}
-use Rattle.mailmap_tables.specs.KeySearch.{IsFound}
+use Rattle.mailmap_entries.specs.Semantics.{IsNormal, is_accepted, new_fields, no_fields}
+use Rattle.mailmap_tables.specs.Groups.{AreGroups, EmailGroup, NameGroup, folded_email, listing}
+use Rattle.mailmap_tables.specs.KeySearch.{IsFound, found_in}
 
 -- each entry has a new name or a new email
 abbrev pub AreAccepted : List Mapping → Type 0
@@ -15,8 +16,25 @@ AreAccepted ms = AllByRecursion (λ m. is_accepted m ≡ true) ms
 abbrev pub with_email : Text → Mapping → Mapping
 with_email e m = record m { old_email = e }
 
+-- what an entry says about an old name
+abbrev pub said : Text → Mapping → NameGroup
+said name m = record { old_name = name; new_name = m.new_name; new_email = unwrap_or m.new_email [] }
+
+-- the email of one entry, which has this old name, or none
+abbrev pub group_with : Mapping → Option Text → EmailGroup
+group_with m None = record { old_email = m.old_email; unnamed = new_fields m; names = [] }
+group_with m (Some name) = record { old_email = m.old_email; unnamed = no_fields; names = said name m ∷ [] }
+
+-- the old name as it is stored at a place, or else as it is given
+abbrev pub spelled_name : List NameGroup → Result ℕ ℕ → Text → Text
+spelled_name names place name = unwrap_or (option_map (λ n. n.old_name) (found_in names place)) name
+
+-- groups whose entries are the normal list of these
+pub record Represent (h : List Mapping) (gs : List EmailGroup) : Type 0 where
+  pub groups : AreGroups gs
+  pub normal : IsNormal h (listing gs)
+
 -- the new groups are those of the old ones and the entry, whose email is at the index
 pub record IsPutInto (m : Mapping) (old : List EmailGroup) (index : ℕ) (new : List EmailGroup) : Type 0 where
-  pub groups : AreGroups new
-  pub normal : IsNormal (listing old ++ m ∷ []) (listing new)
+  pub put : Represent (listing old ++ m ∷ []) new
   pub found : IsFound folded_email (folded m.old_email) new index

@@ -9,7 +9,7 @@ ghost use Rattle.mailmap_entries.specs.declared.entry.Entry.{Entry as Item};
 ghost use Rattle.mailmap_entries.specs.Semantics.{IsNormal, accepted, is_accepted};
 ghost use Rattle.mailmap_batches.specs.Batches.{mapping_at};
 ghost use Rattle.mailmap_tables.specs.Groups.{AreGroups, listing};
-ghost use Rattle.mailmap_tables.specs.Put.{AreAccepted, with_email};
+ghost use Rattle.mailmap_tables.specs.Put.{AreAccepted, Represent, with_email};
 
 use crate::listing::Iter;
 use crate::tables::Tables;
@@ -48,12 +48,25 @@ impl Tables {
         if batch.is_empty() {
             return Ok(());
         }
-        if let [entry] = batch.as_slice() {
-            self.put(entry.old_email(), entry)?;
-        } else {
-            *self = joined(alloc, self, batch)?;
-        }
+        self.merge_accepted(batch)?;
         self.drop_unused();
+        Ok(())
+    }
+
+    // Does what `merge` does, for entries that are accepted.
+    fn merge_accepted(&mut self, entries: Vec<Entry<'_>>) -> Result<(), AllocError>
+        requires groups { AreGroups self.old.groups }
+        requires accepted { AreAccepted (map mapping_of entries.items) }
+        ensures ok { OnOk result
+            (Represent (listing self.old.groups ++ map mapping_of entries.entry.items) self.new.groups) }
+        ensures err { OnErr result (self.new.groups ≡ self.old.groups) }
+    {
+        if let [entry] = entries.as_slice() {
+            self.put(entry.old_email(), entry)?;
+            return Ok(());
+        }
+        let alloc = self.allocator();
+        *self = joined(alloc, self, entries)?;
         Ok(())
     }
 
@@ -112,8 +125,8 @@ fn joined<'a>(
 ) -> Result<Tables, AllocError>
     requires groups { AreGroups existing_tables.now.groups }
     requires accepted { AreAccepted (map mapping_of entries.items) }
-    ensures { IfOk result (λ made. AreGroups made.groups
-        × IsNormal (listing existing_tables.now.groups ++ map mapping_of entries.entry.items) (listing made.groups)) }
+    ensures { IfOk result (λ made.
+        Represent (listing existing_tables.now.groups ++ map mapping_of entries.entry.items) made.groups) }
 {
     let rows = existing_tables.view().row_count();
     if rows == 0 {
@@ -145,8 +158,7 @@ fn listed(alloc: Global, tables: &Tables) -> Result<Vec<Entry<'_>>, AllocError>
 // Tables of these entries.
 fn built(alloc: Global, entries: &[Entry<'_>]) -> Result<Tables, AllocError>
     requires { AreAccepted (map mapping_of entries.now) }
-    ensures { IfOk result
-        (λ made. AreGroups made.groups × IsNormal (map mapping_of entries.now) (listing made.groups)) }
+    ensures { IfOk result (λ made. Represent (map mapping_of entries.now) made.groups) }
 {
     let batch = sorted(alloc, entries)?;
     let mut tables = Tables::with_capacity(alloc, batch.len(), texts_len(entries))?;
@@ -164,20 +176,12 @@ fn built(alloc: Global, entries: &[Entry<'_>]) -> Result<Tables, AllocError>
 fn texts_len(entries: &[Entry<'_>]) -> usize {
     let mut len: usize = 0;
     for entry in entries {
-        len = len.saturating_add(entry_len(entry));
+        let email = Some(entry.old_email());
+        for text in [entry.new_name(), entry.new_email(), entry.old_name(), email] {
+            len = len.saturating_add(text.unwrap_or(&[]).len());
+        }
     }
     len
-}
-
-fn entry_len(entry: &Entry<'_>) -> usize {
-    let (name, email) = (
-        entry.new_name().unwrap_or(&[]),
-        entry.new_email().unwrap_or(&[]),
-    );
-    let new_len = name.len().saturating_add(email.len());
-    let old_name = entry.old_name().unwrap_or(&[]);
-    let old_len = old_name.len().saturating_add(entry.old_email().len());
-    new_len.saturating_add(old_len)
 }
 
 // Puts the entries for one email into tables, with this spelling of it.
@@ -189,9 +193,8 @@ fn put_group(
     requires groups { AreGroups tables.old.groups }
     requires some { 0 < length group.now }
     requires accepted { All (λ p. is_accepted (mapping_at p) ≡ true) group.now }
-    ensures { OnOk result (AreGroups tables.new.groups
-        × IsNormal (listing tables.old.groups ++ map (λ p. with_email email.now (mapping_at p)) group.now)
-        (listing tables.new.groups)) }
+    ensures { OnOk result (Represent
+        (listing tables.old.groups ++ map (λ p. with_email email.now (mapping_at p)) group.now) tables.new.groups) }
 {
     if let [only] = group {
         tables.put(email, only.entry)?;
@@ -246,8 +249,7 @@ fn combined<'a>(first: &Entry<'a>, second: &Entry<'a>) -> Entry<'a>
 fn put_each(mut tables: Tables, entries: &[Entry<'_>]) -> Result<Tables, AllocError>
     requires groups { AreGroups tables.groups }
     requires accepted { AreAccepted (map mapping_of entries.now) }
-    ensures { IfOk result (λ made. AreGroups made.groups
-        × IsNormal (listing tables.groups ++ map mapping_of entries.now) (listing made.groups)) }
+    ensures { IfOk result (λ made. Represent (listing tables.groups ++ map mapping_of entries.now) made.groups) }
 {
     for entry in entries {
         tables.put(entry.old_email(), entry)?;

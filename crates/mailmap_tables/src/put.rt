@@ -1,21 +1,23 @@
 //! Puts one entry into tables. Its texts are appended to the pool before any row changes, so the entries of the tables
 //! stay as they were if memory runs out.
-ghost use Rattle.std.specs.Prelude.{◌≡◌, ◌<◌, ◌≤◌, ◌++◌, ℕ, IfOk, None, OnErr, OnOk, Some, length, true};
+ghost use Rattle.std.specs.Prelude.{◌≡◌, ℕ, IfOk, OnErr, OnOk, length, map, true};
+ghost use Rattle.std.specs.List.{AllByRecursion};
+ghost use Rattle.std.specs.List.Sorted.{IsSearchInRange};
 ghost use Rattle.std.specs.Option.{ForSome, option_copied, option_map, option_or};
 ghost use Rattle.mailmap_entries.specs.Entries.{mapping_of};
 ghost use Rattle.mailmap_entries.specs.Folding.{Text, folded};
 ghost use Rattle.mailmap_entries.specs.Semantics.{is_accepted, new_fields};
-ghost use Rattle.mailmap_tables.specs.KeySearch.{IsFound, IsMissing};
+ghost use Rattle.mailmap_tables.specs.KeySearch.{IsFound};
 ghost use Rattle.mailmap_tables.specs.Groups.{AreGroups, folded_email};
-ghost use Rattle.mailmap_tables.specs.Put.{IsPutInto, with_email};
-ghost use Rattle.mailmap_tables.specs.Pool.{IsRow, IsWithin, LiesIn, spelled, text_of};
+ghost use Rattle.mailmap_tables.specs.Put.{IsPutInto, group_with, spelled_name, with_email};
+ghost use Rattle.mailmap_tables.specs.Pool.{IsGrown, IsRow, IsWithin, LiesIn, NameInPool, RowInPool, name_group, row_group};
+ghost use Rattle.mailmap_tables.specs.Pool.{row_of, spelled, text_of};
 
 use crate::rows::{EmailRow, NameRow};
-use crate::search::{EmailProbe, NameProbe, search_last_first};
+use crate::search::{place_of_email, place_of_name};
 use crate::tables::Tables;
 use crate::texts::{RowTexts, Source, Span};
 use mailmap_entries::Entry;
-use mailmap_entries::fold::Steps;
 use mailmap_entries::fold::prefix::Prefixed;
 use std::alloc::AllocError;
 
@@ -33,26 +35,20 @@ impl Tables {
         ensures err { OnErr result (self.new.groups ≡ self.old.groups) }
     {
         let email = Prefixed::new(email);
-        let view = self.view();
-        let mut probe = EmailProbe {
-            tables: &view,
-            email,
-            steps: Steps::new(),
-        };
-        match search_last_first(view.email_count(), &mut probe) {
+        match place_of_email(&self.view(), email) {
             Ok(index) => {
                 self.put_at(index, email.text, entry)?;
                 Ok(index)
             }
             Err(index) => {
-                self.put_email(index, email, entry)?;
+                let row = self.append_email(email.text, entry)?;
+                self.insert_email(index, email.prefix, row)?;
                 Ok(index)
             }
         }
     }
 
-    /// Does the same if the email is known to be at this index. `email` is its spelling there; clauses
-    /// need it.
+    /// Does the same if the email is known to be at this index. `email` is any spelling of it; only clauses use it.
     #[tactic(auto, using(crate::proofs::KeySearch::reads))]
     pub(crate) fn put_at(
         &mut self,
@@ -79,54 +75,31 @@ impl Tables {
             self.replace_texts(index, row);
             return Ok(());
         };
-        let mut probe = NameProbe {
-            tables: &view,
-            names,
-            name: old_name,
-            steps: Steps::new(),
-        };
-        match search_last_first(names.len(), &mut probe) {
-            Ok(place) => {
-                let existing = names[place];
-                let row = self.append_entry(Source::Pool(existing.old()), entry)?;
-                self.replace_name(index, place, row);
-                Ok(())
-            }
-            Err(place) => {
-                let row = self.append_entry(Source::Given(old_name), entry)?;
-                self.insert_name(index, place, row)
-            }
-        }
+        let place = place_of_name(&view, names, old_name);
+        let old_name = name_at(names, place, old_name);
+        let row = self.append_entry(old_name, entry)?;
+        self.place_name(index, place, row)
     }
 
-    // Inserts an email with an entry for it.
-    fn put_email(
-        &mut self,
-        index: usize,
-        email: Prefixed<'_>,
-        entry: &Entry<'_>,
-    ) -> Result<(), AllocError>
-        requires groups { AreGroups self.old.groups }
-        requires within { index ≤ length self.old.groups }
-        requires missing { IsMissing folded_email (folded email.text.now) self.old.groups index }
-        requires accepted { is_accepted (mapping_of entry.now) ≡ true }
-        ensures ok { OnOk result (IsPutInto (with_email email.entry.text.now (mapping_of entry.now)) self.old.groups index
-            self.new.groups) }
-        ensures err { OnErr result (self.new.groups ≡ self.old.groups) }
+    // Appends the texts of an email with one entry to the pool.
+    fn append_email(&mut self, email: &[u8], entry: &Entry<'_>) -> Result<EmailRow, AllocError>
+        ensures grown { IsGrown self.old self.new }
+        ensures in_pool { IfOk result (λ row. RowInPool self.new.pool (row_of row)) }
+        ensures row { IfOk result (λ row. row_group self.new.pool (row_of row)
+            ≡ group_with (with_email email.now (mapping_of entry.now)) (mapping_of entry.now).old_name) }
     {
         let alloc = self.allocator();
-        let old_email = Source::Given(email.text);
         match entry.old_name() {
             None => {
-                let texts = self.append_entry(old_email, entry)?;
+                let texts = self.append_entry(Source::Given(email), entry)?;
                 let names = Vec::new(alloc);
-                self.insert_email(index, email.prefix, EmailRow { texts, names })
+                Ok(EmailRow { texts, names })
             }
             Some(old_name) => {
-                let texts = self.append_row(old_email, None, None)?;
+                let texts = self.append_row(Source::Given(email), None, None)?;
                 let name = self.append_entry(Source::Given(old_name), entry)?;
                 let names = Vec::from_slice(alloc, &[name])?;
-                self.insert_email(index, email.prefix, EmailRow { texts, names })
+                Ok(EmailRow { texts, names })
             }
         }
     }
@@ -134,7 +107,7 @@ impl Tables {
     // Appends an old text and the new fields of an entry to the pool.
     fn append_entry(&mut self, old: Source<'_>, entry: &Entry<'_>) -> Result<RowTexts, AllocError>
         requires { IsWithin (length self.old.pool) old }
-        ensures grown { (more : Text) × (self.new ≡ record self.old { pool = self.old.pool ++ more }) }
+        ensures grown { IsGrown self.old self.new }
         ensures row { IfOk result
             (IsRow self.new.pool (text_of self.old.pool old.entry) (new_fields (mapping_of entry.now))) }
     {
@@ -143,6 +116,18 @@ impl Tables {
             given_or(entry.new_name(), None),
             given_or(entry.new_email(), None),
         )
+    }
+}
+
+// The old name at a place: as it is stored there, or else as it is given.
+fn name_at<'n>(names: &[NameRow], place: Result<usize, usize>, name: &'n [u8]) -> Source<'n>
+    requires { IsSearchInRange place (length names.now) }
+    ensures text { (pool : Text) → text_of pool result ≡ spelled_name (map (name_group pool) names.now) place name.now }
+    ensures within { (n : ℕ) → AllByRecursion (NameInPool n) names.now → IsWithin n result }
+{
+    match place {
+        Ok(index) => Source::Pool(names[index].old()),
+        Err(_) => Source::Given(name),
     }
 }
 

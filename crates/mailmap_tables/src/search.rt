@@ -1,11 +1,11 @@
 //! Binary searches for emails and names in tables. [`Steps`] makes and counts all comparisons of keys.
-ghost use Rattle.std.specs.Prelude.{◌≡◌, ◌<◌, ◌≤◌, ◌+◌, ◌-◌, ◌^◌, All, IfErr, IfOk, Some, length, map, min, slice_get};
+ghost use Rattle.std.specs.Prelude.{◌≡◌, ◌<◌, ◌≤◌, ◌+◌, ◌-◌, All, IfErr, IfOk, Some, length, map, min, slice_get};
 ghost use Rattle.std.specs.List.{AllByRecursion};
 ghost use Rattle.std.specs.List.Sorted.{IsPartitionPoint, IsSearchInRange, IsStrictlySortedBy};
 ghost use Rattle.mailmap_entries.specs.Folding.{folded, text_cmp};
 ghost use Rattle.mailmap_entries.specs.Search.{IsPartitioned, digits};
 ghost use Rattle.mailmap_tables.specs.Groups.{folded_email, folded_name};
-ghost use Rattle.mailmap_tables.specs.KeySearch.{IsFound, IsMissing, compared};
+ghost use Rattle.mailmap_tables.specs.KeySearch.{IsFound, IsMissing, IsPlace, compared};
 ghost use Rattle.mailmap_tables.specs.Pool.{LiesIn, NameInPool, name_group};
 ghost use Rattle.mailmap_tables.specs.RowTexts.{old_span};
 
@@ -16,12 +16,12 @@ use mailmap_entries::fold::{Probe, Steps, search};
 use std::cmp::Ordering;
 use std::mem;
 
-/// The emails of tables, compared to one email.
+// The emails of tables, compared to one email.
 #[derive(Drop)]
-pub(crate) struct EmailProbe<'t, 'a, 'e> {
-    pub tables: &'t View<'a>,
-    pub email: Prefixed<'e>,
-    pub steps: Steps,
+struct EmailProbe<'t, 'a, 'e> {
+    tables: &'t View<'a>,
+    email: Prefixed<'e>,
+    steps: Steps,
 }
 
 impl Probe for EmailProbe<'_, '_, '_> {
@@ -36,13 +36,13 @@ impl Probe for EmailProbe<'_, '_, '_> {
     }
 }
 
-/// The names of an email, compared to one name.
+// The names of an email, compared to one name.
 #[derive(Drop)]
-pub(crate) struct NameProbe<'t, 'a, 'n> {
-    pub tables: &'t View<'a>,
-    pub names: &'a [NameRow],
-    pub name: &'n [u8],
-    pub steps: Steps,
+struct NameProbe<'t, 'a, 'n> {
+    tables: &'t View<'a>,
+    names: &'a [NameRow],
+    name: &'n [u8],
+    steps: Steps,
     ghost in_pool: { All (λ r. LiesIn (length tables.now.pool) (old_span r)) names.now },
 }
 
@@ -58,9 +58,9 @@ impl Probe for NameProbe<'_, '_, '_> {
     }
 }
 
-/// Does what [`search`] does, but asks about the last index first: tables are built of entries in ascending order, so
-/// a new email comes after the last one, and an old name is the last one of its email or comes after it.
-pub(crate) fn search_last_first<P: Probe>(len: usize, p: &mut P) -> Result<usize, usize>
+// Does what [`search`] does, but asks about the last index first: tables are built of entries in ascending order, so a
+// new email comes after the last one, and an old name is the last one of its email or comes after it.
+fn search_last_first<P: Probe>(len: usize, p: &mut P) -> Result<usize, usize>
     requires whole { len ≡ length (P.answers p.old) }
     requires parted { IsPartitioned (P.answers p.old) }
     requires none_asked { P.asked p.old ≡ 0 }
@@ -77,6 +77,39 @@ pub(crate) fn search_last_first<P: Probe>(len: usize, p: &mut P) -> Result<usize
         }
     }
     search(len, p)
+}
+
+/// The place of an email: its index, or the index to insert it at. Its comparisons aren't counted.
+pub(crate) fn place_of_email(tables: &View<'_>, email: Prefixed<'_>) -> Result<usize, usize>
+    requires { IsStrictlySortedBy text_cmp (map folded_email tables.now.groups) }
+    ensures { IsPlace folded_email (folded email.entry.text.now) tables.now.groups result }
+{
+    let mut probe = EmailProbe {
+        tables,
+        email,
+        steps: Steps::new(),
+    };
+    search_last_first(tables.email_count(), &mut probe)
+}
+
+/// The place of a name among the names of an email, in the same way.
+pub(crate) fn place_of_name(
+    tables: &View<'_>,
+    names: &[NameRow],
+    name: &[u8],
+) -> Result<usize, usize>
+    requires in_pool { AllByRecursion (NameInPool (length tables.now.pool)) names.now }
+    requires ascending { IsStrictlySortedBy text_cmp (map folded_name (map (name_group tables.now.pool) names.now)) }
+    ensures within { IsSearchInRange result (length names.now) }
+    ensures place { IsPlace folded_name (folded name.now) (map (name_group tables.now.pool) names.now) result }
+{
+    let mut probe = NameProbe {
+        tables,
+        names,
+        name,
+        steps: Steps::new(),
+    };
+    search_last_first(names.len(), &mut probe)
 }
 
 /// The index of an email, or the index to insert it at. Counts the comparisons: there are at most as many as the number

@@ -1,9 +1,10 @@
 //! The tables of a snapshot: a pool with the bytes of all texts, and a table of emails with their names, whose rows say
 //! where their texts are in the pool.
-ghost use Rattle.std.specs.Prelude.{◌≡◌, ◌++◌, ◌+◌, ◌<◌, ◌≤◌, ◌^◌, [], IfOk, OnErr, OnOk, length, map, slice_get, slice_set};
+ghost use Rattle.std.specs.Prelude.{◌≡◌, ◌+◌, ◌<◌, ◌≤◌, ◌^◌, [], IfOk, OnErr, OnOk, length, slice_get};
 ghost use Rattle.std.specs.List.{insert};
+ghost use Rattle.std.specs.List.Sorted.{IsSearchInRange};
 ghost use Rattle.std.specs.Option.{ForSome, option_map};
-ghost use Rattle.mailmap_entries.specs.Folding.{Text};
+ghost use Rattle.mailmap_tables.specs.KeySearch.{placed};
 ghost use Rattle.mailmap_tables.specs.Pool.{rows_of};
 
 use crate::rows::{EmailRow, NameRow};
@@ -132,8 +133,8 @@ fn copied(alloc: Global, rows: &[EmailRow]) -> Result<Vec<EmailRow>, AllocError>
 /// Changes of single rows.
 impl Tables {
     ghost use Rattle.mailmap_tables.specs.Groups.{Contents};
-    ghost use Rattle.mailmap_tables.specs.Pool.{IsRow, IsWithin, NameInPool, RowInPool, TextsInPool, fields_of, name_group};
-    ghost use Rattle.mailmap_tables.specs.Pool.{prefix_of, row_group, row_of, spelled, text_of, with_email_at};
+    ghost use Rattle.mailmap_tables.specs.Pool.{IsGrown, IsRow, IsWithin, NameInPool, RowInPool, TextsInPool, fields_of};
+    ghost use Rattle.mailmap_tables.specs.Pool.{name_group, prefix_of, row_group, row_of, spelled, text_of, with_email_at};
     ghost use Rattle.mailmap_tables.specs.RowTexts.{old_span};
 
     /// Appends the texts of a row to the pool.
@@ -146,7 +147,7 @@ impl Tables {
         requires old { IsWithin (length self.old.pool) old }
         requires new_name { ForSome new_name (IsWithin (length self.old.pool)) }
         requires new_email { ForSome new_email (IsWithin (length self.old.pool)) }
-        ensures grown { (more : Text) × (self.new ≡ record self.old { pool = self.old.pool ++ more }) }
+        ensures grown { IsGrown self.old self.new }
         ensures row { IfOk result (IsRow self.new.pool (text_of self.old.pool old.entry)
             (record {
               name = option_map (text_of self.old.pool) new_name.entry;
@@ -168,32 +169,22 @@ impl Tables {
         self.emails[email].texts = texts;
     }
 
-    pub(crate) fn replace_name(&mut self, email: usize, index: usize, row: NameRow)
-        requires email { email < length self.old.groups }
-        requires index { ForSome (slice_get self.old.groups email) (λ g. index < length g.names) }
-        requires in_pool { NameInPool (length self.old.pool) row }
-        ensures { ForSome (slice_get self.old.groups email) (λ g. self.new
-            ≡ with_email_at self.old email (record g { names = slice_set g.names index (name_group self.old.pool row) })) }
-    {
-        self.emails[email].names[index] = row;
-    }
-
-    /// Inserts a name among those of an email.
-    pub(crate) fn insert_name(
+    /// Replaces the row at a place among the names of an email, or inserts it there.
+    pub(crate) fn place_name(
         &mut self,
         email: usize,
-        index: usize,
+        place: Result<usize, usize>,
         row: NameRow,
     ) -> Result<(), AllocError>
         requires email { email < length self.old.groups }
-        requires index { ForSome (slice_get self.old.groups email) (λ g. index ≤ length g.names) }
+        requires place { ForSome (slice_get self.old.groups email) (λ g. IsSearchInRange place (length g.names)) }
         requires in_pool { NameInPool (length self.old.pool) row }
         ensures ok { OnOk result (ForSome (slice_get self.old.groups email) (λ g. self.new
-            ≡ with_email_at self.old email (record g { names = insert g.names index (name_group self.old.pool row) }))) }
+            ≡ with_email_at self.old email (record g { names = placed g.names place (name_group self.old.pool row) }))) }
         ensures err { OnErr result (self.new ≡ self.old) }
     {
-        let count = with_more(self.name_count, 1)?;
-        self.emails[email].names.insert(index, row)?;
+        let count = with_more(self.name_count, usize::from(place.is_err()))?;
+        place_row(&mut self.emails[email].names, place, row)?;
         self.name_count = count;
         Ok(())
     }
@@ -231,4 +222,25 @@ fn with_more(count: usize, more: usize) -> Result<usize, AllocError>
         return Err(AllocError);
     }
     Ok(count + more)
+}
+
+fn place_row(
+    rows: &mut Vec<NameRow>,
+    place: Result<usize, usize>,
+    row: NameRow,
+) -> Result<(), AllocError>
+    requires { IsSearchInRange place (length rows.old.items) }
+    ensures ok { OnOk result (rows.new.items ≡ placed rows.old.items place row) }
+    ensures err { OnErr result (rows.new.items ≡ rows.old.items) }
+{
+    match place {
+        Ok(index) => {
+            rows[index] = row;
+            Ok(())
+        }
+        Err(index) => {
+            rows.insert(index, row)?;
+            Ok(())
+        }
+    }
 }

@@ -1,9 +1,9 @@
 //! The texts of a row: an old text, and the new name and the new email that replace it. They are consecutive in the
 //! pool.
-ghost use Rattle.std.specs.Prelude.{◌≡◌, ◌≤◌, ◌+◌, ◌++◌, [], IfOk, OnOk, OnErr, length, unwrap_or};
+ghost use Rattle.std.specs.Prelude.{◌≡◌, ◌+◌, IfOk, Some, length};
 ghost use Rattle.std.specs.Option.{ForSome, option_map};
-ghost use Rattle.mailmap_tables.specs.Pool.{Extends, IsRow, IsWithin, stored_len, text_of};
-ghost use Rattle.mailmap_tables.specs.RowTexts.{byte_count, email_span, name_span, old_span, span_of};
+ghost use Rattle.mailmap_tables.specs.Pool.{Extends, IsRow, IsStored, IsWithin, text_of};
+ghost use Rattle.mailmap_tables.specs.RowTexts.{byte_count, old_span, span_of};
 
 use std::alloc::AllocError;
 
@@ -36,28 +36,11 @@ impl RowTexts {
             len: self.old_len,
         }
     }
-
-    #[tactic(auto, unfolding(crate::specs::RowTexts::name_span))]
-    pub(crate) fn new_name(self) -> Option<Span>
-        requires { self.start + self.old_len ≤ usize.MAX }
-        ensures { result ≡ name_span self }
-    {
-        span_of(self.start + self.old_len, self.new_name_len)
-    }
-
-    #[tactic(auto, unfolding(crate::specs::RowTexts::email_span))]
-    pub(crate) fn new_email(self) -> Option<Span>
-        requires { self.start + self.old_len + byte_count self.new_name_len ≤ usize.MAX }
-        ensures { result ≡ email_span self }
-    {
-        let start = self.start + self.old_len + byte_count(self.new_name_len);
-        span_of(start, self.new_email_len)
-    }
 }
 
-// The text of this length at `start`, `None` if the length is [`NO_TEXT`].
+/// The text of this length at `start`, `None` if the length is [`NO_TEXT`].
 #[tactic(auto, unfolding(crate::specs::RowTexts::span_of))]
-fn span_of(start: usize, len: usize) -> Option<Span>
+pub(crate) fn span_of(start: usize, len: usize) -> Option<Span>
     ensures { result ≡ span_of start len }
 {
     if len == NO_TEXT {
@@ -67,9 +50,9 @@ fn span_of(start: usize, len: usize) -> Option<Span>
     }
 }
 
-// The number of bytes of a text with this length, 0 if it is [`NO_TEXT`].
+/// The number of bytes of a text with this length, 0 if it is [`NO_TEXT`].
 #[tactic(auto, unfolding(crate::specs::RowTexts::byte_count))]
-fn byte_count(len: usize) -> usize
+pub(crate) fn byte_count(len: usize) -> usize
     ensures { result ≡ byte_count len }
 {
     if len == NO_TEXT { 0 } else { len }
@@ -111,12 +94,12 @@ pub(crate) fn append_row(
     })
 }
 
-// Appends a text, and returns its length.
+// Appends a text, and returns its length. On an error the pool may have grown.
+#[tactic(auto, using(crate::proofs::RowsOfPool::stored))]
 fn append(pool: &mut Vec<u8>, text: Source<'_>) -> Result<usize, AllocError>
     requires { IsWithin (length pool.old.items) text }
-    ensures items { OnOk result (pool.new.items ≡ pool.old.items ++ text_of pool.old.items text.entry) }
-    ensures len { IfOk result (λ len. len ≡ length (text_of pool.old.items text.entry)) }
-    ensures same { OnErr result (pool.new.items ≡ pool.old.items) }
+    ensures grown { Extends pool.old.items pool.new.items }
+    ensures stored { IfOk result (IsStored pool.old.items pool.new.items (Some (text_of pool.old.items text.entry))) }
 {
     match text {
         Source::Given(text) => {
@@ -131,12 +114,12 @@ fn append(pool: &mut Vec<u8>, text: Source<'_>) -> Result<usize, AllocError>
 }
 
 // Appends a text if there is one, and returns the length to store for it.
+#[tactic(auto, using(crate::proofs::RowsOfPool::none_stored))]
 fn append_optional(pool: &mut Vec<u8>, text: Option<Source<'_>>) -> Result<usize, AllocError>
     requires { ForSome text (IsWithin (length pool.old.items)) }
-    ensures items { OnOk result (pool.new.items
-        ≡ pool.old.items ++ unwrap_or (option_map (text_of pool.old.items) text.entry) []) }
-    ensures len { IfOk result (λ len. len ≡ stored_len (option_map (text_of pool.old.items) text.entry)) }
-    ensures same { OnErr result (pool.new.items ≡ pool.old.items) }
+    ensures grown { Extends pool.old.items pool.new.items }
+    ensures stored { IfOk result
+        (IsStored pool.old.items pool.new.items (option_map (text_of pool.old.items) text.entry)) }
 {
     match text {
         Some(text) => append(pool, text),

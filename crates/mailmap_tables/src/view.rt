@@ -3,7 +3,7 @@ ghost use Rattle.std.specs.Prelude.{◌≡◌, ◌≤◌, ◌<◌, get_or, lengt
 ghost use Rattle.std.specs.Option.{option_map, option_copied, ForSome};
 
 use crate::rows::{EmailRow, NameRow};
-use crate::texts::{RowTexts, Span};
+use crate::texts::{RowTexts, Span, byte_count, span_of};
 use mailmap_entries::fold::prefix::Prefixed;
 use std::marker::Model;
 
@@ -97,15 +97,21 @@ impl<'a> View<'a> {
     }
 
     /// The new name and the new email of a row, if there are any.
+    #[tactic(auto, unfolding(crate::specs::RowTexts::name_span, crate::specs::RowTexts::email_span))]
     pub fn fields(&self, texts: RowTexts) -> (Option<Span>, Option<Span>)
         requires { TextsInPool (length self.now.pool) texts }
         ensures new_name { result.0 ≡ name_span texts }
         ensures new_email { result.1 ≡ email_span texts }
     {
         let len = self.pool.len();
-        // so that the sums in `new_name` and `new_email` don't overflow
+        // so that these sums don't overflow
         prove!(texts.start <= len);
-        (texts.new_name(), texts.new_email())
+        let name_start = texts.start + texts.old_len;
+        let email_start = name_start + byte_count(texts.new_name_len);
+        (
+            span_of(name_start, texts.new_name_len),
+            span_of(email_start, texts.new_email_len),
+        )
     }
 
     /// The texts of the email at an index, and the rows of its names.

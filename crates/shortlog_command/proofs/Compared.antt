@@ -1,5 +1,5 @@
 -- Comparing texts in parts.
-use Rattle.std.proofs.Common.{◌≡◌, ◌==◌, ◌∙◌, ◌-◌, ◌<◌, ◌≤◌, zero, suc, ℕ, true, false, List, [], ◌∷◌, ◌++◌, Bor, Ordering, Less, Equal, Greater, ap, arith, drop, flat_map, get_or, length, length-drop, min, refl, sym, take, take_all}
+use Rattle.std.proofs.Common.{◌≡◌, ◌==◌, ◌∙◌, ◌-◌, ◌<◌, ◌≤◌, zero, suc, ℕ, true, false, List, [], ◌∷◌, ◌++◌, Bor, Ordering, Less, Equal, Greater, ap, arith, drop, flat_map, get_or, length, length-drop, min, refl, sym, take}
 use Rattle.std.specs.Cmp.{nat_cmp_is}
 use Rattle.std.specs.Cmp.Derive.{then_next}
 use Rattle.std.proofs.lemmas.Bool.{eqb-true}

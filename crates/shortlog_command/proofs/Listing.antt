@@ -1,6 +1,6 @@
 -- From counted contacts to the listing of their answers.
 use Rattle.std.proofs.Common.{◌≡◌, ◌∙◌, ◌+◌, ◌<◌, ℕ, zero, suc, Bool, true, false, cond, Contains, IsPermutation, Option, None, Some, List, [], ◌∷◌, ◌++◌, Result, Ok, Err, OnErr, ap, arith, bytes_eq, flat_map, get_or, length, map, refl, subst, sym, unwrap_or}
-use Rattle.std.specs.Prelude.{◌&&◌, count_by, is_some, option_map}
+use Rattle.std.specs.Prelude.{count_by, is_some, option_map}
 use Rattle.std.specs.List.{AllByRecursion, cons_option, filter_map}
 use Rattle.std.specs.List.Sorted.{IsStrictlySortedBy}
 use Rattle.std.specs.Map.{keys_of}

@@ -1,7 +1,7 @@
 -- The arguments of `mailmap_shortlog`, and what each task prints.
-use Rattle.std.specs.Prelude.{◌≡◌, ◌==◌, ◌&&◌, ◌||◌, ⊤, ℕ, Bool, true, false, if◌then◌else◌, nat_eq, nat_lt, IsTrue, List, [], ◌∷◌, ◌++◌, Option, Result, Ok, Err, IfSome, codes, drop, length, not, slice_index}
+use Rattle.std.specs.Prelude.{◌≡◌, ◌==◌, ◌&&◌, ◌||◌, ⊤, ℕ, Bool, true, false, if◌then◌else◌, nat_lt, IsTrue, List, [], ◌∷◌, ◌++◌, Option, Result, Ok, Err, IfSome, codes, drop, length, not, slice_index}
 use Rattle.std.specs.List.{list_all, list_any}
-use lib.Pointwise.{pointwise}
+use Rattle.std.specs.Str.{bytes_eq}
 use Rattle.mailmap_snapshot.specs.Folding.{Text}
 use Rattle.command_line.specs.Files.{AreRead, AtPath, NamesFile, texts}
 use Rattle.command_line.specs.declared.TheConstants.{VERSION}
@@ -27,9 +27,6 @@ abbrev pub asked_of : Result Task UnknownOption → Asked
 asked_of (Ok t) = task t.mode (texts t.paths.now)
 asked_of (Err option) = unknown_option option.0.now
 
-abbrev pub same_text : Text → Text → Bool
-same_text a b = pointwise nat_eq a b
-
 -- an argument that starts with `-` and is longer than that
 abbrev pub is_dashed : Text → Bool
 is_dashed argument = slice_index argument 0 == 45 && nat_lt 1 (length argument)
@@ -51,9 +48,9 @@ options_with options argument = record {
 -- the task for these arguments, after earlier ones that gave the options
 abbrev pub asked : Options → List Text → Asked
 asked options [] = task (Shortlog options) []
-asked options (argument ∷ rest) = if same_text argument (codes "--") then task (Shortlog options) rest
-    else if same_text argument (codes "-h") || same_text argument (codes "--help") then task Help []
-    else if same_text argument (codes "--version") then task Version []
+asked options (argument ∷ rest) = if bytes_eq argument (codes "--") then task (Shortlog options) rest
+    else if bytes_eq argument (codes "-h") || bytes_eq argument (codes "--help") then task Help []
+    else if bytes_eq argument (codes "--version") then task Version []
     else if not (is_dashed argument) then task (Shortlog options) (argument ∷ rest)
     else if list_all is_option (drop 1 argument) then asked (options_with options argument) rest
     else unknown_option argument

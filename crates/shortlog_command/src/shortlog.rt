@@ -1,7 +1,5 @@
 //! A shortlog: one line for each distinct answer, with its count.
-ghost use Rattle.std.specs.Prelude.{◌≡◌, ◌⊎◌, ◌++◌, ℕ, IfErr, IfOk, IsOkUnless, OnErr, OnOk, codes, decimal, drop};
-ghost use Rattle.std.specs.Prelude.{map, take};
-ghost use Rattle.std.specs.Io.KnownBytes.{Appends};
+ghost use Rattle.std.specs.Prelude.{◌≡◌, ◌⊎◌, ◌++◌, IfErr, IfOk, IsOkUnless, OnErr, OnOk, codes, decimal, drop, map};
 ghost use Rattle.std.specs.List.{flat_map};
 ghost use Rattle.std.specs.List.Sorted.{IsPermutation, IsSortedBy, IsStrictlySortedBy};
 ghost use Rattle.std.specs.Map.{keys_of};
@@ -9,7 +7,7 @@ ghost use Rattle.std.specs.Ordering.{is_lt};
 ghost use Rattle.bstr.specs.Text.{lines_of};
 ghost use Rattle.mailmap_snapshot.specs.Folding.{Text};
 ghost use Rattle.command_line.specs.Leaving.{LeavesText};
-ghost use Rattle.command_line.specs.Printing.{IsUnderway};
+ghost use Rattle.command_line.specs.Printing.{AppendsFront, IsUnderway, WritesText};
 ghost use Rattle.contact_counter.specs.Contacts.{answer_to};
 ghost use Rattle.contact_counter.specs.Counts.{AreContactsOf, SameTallies};
 ghost use Rattle.shortlog_command.specs.Answers.{answer_cmp, answer_counted, answer_tally, printed, text_tally};
@@ -140,10 +138,8 @@ fn print_lines<W: Write>(
     answers: &[Counted<'_>],
     output: &mut W,
 ) -> Result<(), Failure>
-    ensures ok { OnOk result (Appends (W.contents output.old) (W.contents output.new)
-        (printer.old ++ flat_map counted_text (map answer_counted answers.now))) }
-    ensures err { OnErr result ((count : ℕ) × Appends (W.contents output.old) (W.contents output.new)
-        (take count (printer.old ++ flat_map counted_text (map answer_counted answers.now)))) }
+    ensures writes { WritesText (printer.old ++ flat_map counted_text (map answer_counted answers.now))
+        W.contents output.old output.new result }
     ensures only { IsOkUnless result Failure.Output }
 {
     let mut buffer = Buffer::new();
@@ -191,8 +187,8 @@ fn print_pieces<W: Write>(
 ) -> Result<(), Failure>
     ensures ok { OnOk result (IsUnderway (printer.old ++ flat_map (λ p. p.now) pieces.now)
         (W.contents output.old) (W.contents output.new) printer.new) }
-    ensures err { OnErr result ((count : ℕ) × Appends (W.contents output.old) (W.contents output.new)
-        (take count (printer.old ++ flat_map (λ p. p.now) pieces.now))) }
+    ensures err { OnErr result (AppendsFront (W.contents output.old) (W.contents output.new)
+        (printer.old ++ flat_map (λ p. p.now) pieces.now)) }
     ensures only { IsOkUnless result Failure.Output }
 {
     for piece in pieces {

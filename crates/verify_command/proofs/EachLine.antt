@@ -1,5 +1,5 @@
 -- The explanations of lines, one after another.
-use Rattle.std.proofs.Common.{◌≡◌, ◌++◌, ◌∙◌, ◌+◌, ℕ, [], ◌∷◌, None, Some, ap, append-nil, append_assoc, arith, flat_map, inl, inr, refl, sym, take}
+use Rattle.std.proofs.Common.{◌≡◌, ◌++◌, ◌∙◌, ◌+◌, ℕ, [], ◌∷◌, Some, ap, append-nil, append_assoc, flat_map, inl, inr, refl, sym, take}
 use Rattle.std.proofs.lemmas.Bool.{eqb-true}
 use Rattle.bstr.specs.Find.{IsFirstByte, is_byte}
 use Rattle.mailmap_grammar.specs.Lines.{HoldsNo}

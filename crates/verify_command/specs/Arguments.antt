@@ -1,12 +1,12 @@
 -- What the arguments of `mailmap_verify` ask for.
 use Rattle.std.specs.Prelude.{◌==◌, ◌&&◌, ◌≡◌, ◌+◌, ⊤, ℕ, Bool, true, false, if◌then◌else◌, nat_lt, is_some, length, List, [], ◌∷◌, ◌++◌, Option, Some, None, Result, Ok, Err, codes, drop, not, slice_index, take, unwrap_or}
-use Rattle.std.specs.List.{position}
 use Rattle.std.specs.Option.{option_map}
+use Rattle.std.specs.Str.{bytes_eq}
 use Rattle.bstr.specs.Text.{split_at}
-use Rattle.bstr.specs.Find.{matches}
+use Rattle.bstr.specs.Find.{first_of, matches}
 use Rattle.mailmap_entries.specs.Folding.{Text}
 use Rattle.command_line.specs.Files.{texts}
-use Rattle.verify_command.specs.Kinds.{kind_named, same_text}
+use Rattle.verify_command.specs.Kinds.{kind_named}
 use Rattle.verify_command.specs.Settings.{Choices, choices_of, input_name, no_choices}
 use Rattle.verify_command.specs.declared.asked.Format.{Format}
 use Rattle.verify_command.specs.declared.asked.Format.TheVariants.{Gcc, Json}
@@ -70,24 +70,20 @@ is_dashed argument = slice_index argument 0 == 45 && nat_lt 1 (length argument)
 
 -- an option with a value, by its long name
 abbrev pub setting_named : Text → Option Setting
-setting_named name = if same_text name (codes "--contacts") then Some setting.Contacts
-    else if same_text name (codes "--suggest") then Some setting.Suggest
-    else if same_text name (codes "--severity") then Some setting.Severity
-    else if same_text name (codes "--exclude") then Some setting.Exclude
-    else if same_text name (codes "--format") then Some setting.Format
-    else if same_text name (codes "--stdin-name") then Some setting.StdinName else None
+setting_named name = if bytes_eq name (codes "--contacts") then Some setting.Contacts
+    else if bytes_eq name (codes "--suggest") then Some setting.Suggest
+    else if bytes_eq name (codes "--severity") then Some setting.Severity
+    else if bytes_eq name (codes "--exclude") then Some setting.Exclude
+    else if bytes_eq name (codes "--format") then Some setting.Format
+    else if bytes_eq name (codes "--stdin-name") then Some setting.StdinName else None
 
 -- the index of the first `=`
 abbrev pub equals_in : Text → Option ℕ
-equals_in argument = position (λ byte. byte == 61) argument
+equals_in argument = first_of (matches argument (codes "=") 0)
 
 -- the part before it; without one, all
-abbrev pub name_at : Text → Option ℕ → Text
-name_at argument (Some at) = take at argument
-name_at argument None = argument
-
 abbrev pub name_in : Text → Text
-name_in argument = name_at argument (equals_in argument)
+name_in argument = unwrap_or (option_map (λ at. take at argument) (equals_in argument)) argument
 
 -- the part after it
 abbrev pub value_in : Text → Option Text
@@ -102,15 +98,15 @@ setting_word argument = elim (setting_named (name_in argument)) [
 
 -- the kind of an argument where an option can stand
 abbrev pub word_of : Text → Word
-word_of argument = if same_text argument (codes "--") then word.End
-    else if same_text argument (codes "-h") then word.Alone Help
-    else if same_text argument (codes "--help") then word.Alone Help
-    else if same_text argument (codes "--version") then word.Alone Version
-    else if same_text argument (codes "--prune") then word.Mode Prune
-    else if same_text argument (codes "--explain") then word.Mode Explain
-    else if same_text argument (codes "-S") then word.Next setting.Severity
-    else if same_text argument (codes "-e") then word.Next setting.Exclude
-    else if same_text argument (codes "-f") then word.Next setting.Format else setting_word argument
+word_of argument = if bytes_eq argument (codes "--") then word.End
+    else if bytes_eq argument (codes "-h") then word.Alone Help
+    else if bytes_eq argument (codes "--help") then word.Alone Help
+    else if bytes_eq argument (codes "--version") then word.Alone Version
+    else if bytes_eq argument (codes "--prune") then word.Mode Prune
+    else if bytes_eq argument (codes "--explain") then word.Mode Explain
+    else if bytes_eq argument (codes "-S") then word.Next setting.Severity
+    else if bytes_eq argument (codes "-e") then word.Next setting.Exclude
+    else if bytes_eq argument (codes "-f") then word.Next setting.Format else setting_word argument
 
 -- ---- what an option adds to a request
 
@@ -152,12 +148,12 @@ with_mode w mode contacts option =
     if has_no_mode w.mode then checked (record w { mode = mode; contacts = contacts }) else Err (second_mode option)
 
 abbrev pub level_named : Text → Option Level
-level_named name = if same_text name (codes "error") then Some Error
-    else if same_text name (codes "warning") then Some Warning else if same_text name (codes "note") then Some Note
+level_named name = if bytes_eq name (codes "error") then Some Error
+    else if bytes_eq name (codes "warning") then Some Warning else if bytes_eq name (codes "note") then Some Note
     else None
 
 abbrev pub format_named : Text → Option Format
-format_named name = if same_text name (codes "gcc") then Some Gcc else if same_text name (codes "json") then Some Json
+format_named name = if bytes_eq name (codes "gcc") then Some Gcc else if bytes_eq name (codes "json") then Some Json
     else None
 
 -- the names between commas
@@ -208,7 +204,7 @@ without_value w setting option =
 
 -- `-` as a file means standard input
 abbrev pub is_dash : Text → Bool
-is_dash path = same_text path (codes "-")
+is_dash path = bytes_eq path (codes "-")
 
 -- standard input has contacts, and so can't be the mailmap
 abbrev pub reads_contacts : Mode → Text → Bool

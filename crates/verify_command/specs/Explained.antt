@@ -55,11 +55,16 @@ each_line answer text = flat_map answer (whole_lines text)
 
 -- ---- explanations with mailmaps
 
+-- g is made from mailmaps with these paths and texts
+pub record AreGrounds (paths mailmaps : List Text) (g : Grounds) : Type 0 where
+  pub paths_are : g.paths ≡ paths
+  pub history_is : g.history ≡ located (located_lines mailmaps)
+  pub effective : AreEffective g.history g.kept
+
 -- The text is made of explanations with these mailmaps.
 abbrev pub Explains : List Text → List Text → ((Text → Text) → Text → Type 0) → Text → Type 0
 Explains paths mailmaps IsText text =
-    (kept : List LocatedMapping) × AreEffective (located (located_lines mailmaps)) kept
-    × IsText (each_line (explained_line (record { paths = paths; history = located (located_lines mailmaps); kept = kept }))) text
+    (g : Grounds) × AreGrounds paths mailmaps g × IsText (each_line (explained_line g)) text
 
 -- It explains all lines of the input.
 abbrev pub ExplainsAll : List Text → List Text → Option Text → Text → Type 0

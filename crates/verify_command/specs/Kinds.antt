@@ -1,7 +1,7 @@
 -- The kinds of findings, with their names and levels.
-use Rattle.std.specs.Prelude.{Bool, List, [], ◌∷◌, Option, codes, nat_eq}
+use Rattle.std.specs.Prelude.{Bool, List, [], ◌∷◌, Option, codes}
 use Rattle.std.specs.List.{find}
-use lib.Pointwise.{pointwise}
+use Rattle.std.specs.Str.{bytes_eq}
 use Rattle.mailmap_contacts.specs.Comparisons.{ContactFinding, git_answers, no_contact, same_email, same_name}
 use Rattle.mailmap_entries.specs.Folding.{Text}
 use Rattle.mailmap_findings.specs.Findings.{FindingKind, fault, ignored_text, git_reads, no_effect, itself_mapped}
@@ -10,9 +10,6 @@ use Rattle.verify_command.specs.declared.kinds.Kind.{Kind}
 use Rattle.verify_command.specs.declared.kinds.Kind.TheVariants as kind
 use Rattle.verify_command.specs.declared.kinds.Level.{Level}
 use Rattle.verify_command.specs.declared.kinds.Level.TheVariants.{Note, Warning, Error}
-
-abbrev pub same_text : Text → Text → Bool
-same_text a b = pointwise nat_eq a b
 
 -- ---- the kind of a finding
 
@@ -55,7 +52,7 @@ kind_name kind.SameName = codes "same-name"
 kind_name kind.GitAnswers = codes "git-answers"
 
 abbrev pub same_kind : Kind → Kind → Bool
-same_kind a b = same_text (kind_name a) (kind_name b)
+same_kind a b = bytes_eq (kind_name a) (kind_name b)
 
 abbrev pub kinds : List Kind
 kinds = kind.NoEmail ∷ kind.UnclosedEmail ∷ kind.EmptyEmail ∷ kind.NothingToMap ∷ kind.UnclosedSecondEmail
@@ -64,7 +61,7 @@ kinds = kind.NoEmail ∷ kind.UnclosedEmail ∷ kind.EmptyEmail ∷ kind.Nothing
 
 -- the kind with this name
 abbrev pub kind_named : Text → Option Kind
-kind_named name = find (λ k. same_text (kind_name k) name) kinds
+kind_named name = find (λ k. bytes_eq (kind_name k) name) kinds
 
 abbrev pub level_name : Level → Text
 level_name Note = codes "note"

@@ -16,7 +16,6 @@ use Rattle.command_line.specs.Shown.{shown}
 use Rattle.verify_command.specs.Json.{FileLine, Notice, object_line}
 use Rattle.verify_command.specs.Kinds.{finding_kind, kind_level, kind_name, level_name, contact_kind}
 use Rattle.verify_command.specs.Settings.{Choices, counts, is_json, is_reported, mailmap_names}
-use Rattle.verify_command.specs.declared.kinds.Kind.{Kind}
 use Rattle.verify_command.specs.declared.report.Piece.{Piece as the_piece}
 use Rattle.mailmap_contacts.specs.Contacts.{Tally, contacts_from, tallied}
 use Rattle.mailmap_snapshot.specs.Contacts.{contact_line}

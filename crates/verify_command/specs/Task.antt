@@ -53,33 +53,27 @@ version_line = codes "mailmap_verify " ++ VERSION.now ++ 10 ∷ []
 
 -- The text has a line for each finding in the mailmaps that is reported, and nothing else, and the outcome tells
 -- whether one of them counts.
-abbrev pub IsReportOn : Wanted → List Text → Outcome → Text → Type 0
-IsReportOn w mailmaps outcome text = (findings : List Finding) × AreFindings mailmaps findings
+abbrev pub IsReport : Wanted → List Text → Outcome → Text → Type 0
+IsReport w mailmaps outcome text = (findings : List Finding) × AreFindings mailmaps findings
     × Says outcome text (map (finding_piece w.choices (mailmap_names w.choices w.paths)) findings)
-
-abbrev pub IsReport : (Text → AtPath) → Option Text → Wanted → Outcome → Text → Type 0
-IsReport at input w outcome text =
-    (mailmaps : List Text) × AreMailmaps at input w mailmaps × IsReportOn w mailmaps outcome text
 
 -- The text is the one mailmap without its lines that have no effect; git reads each of its lines alike.
 abbrev pub IsPrunedFrom : List Text → Outcome → Text → Type 0
 IsPrunedFrom mailmaps outcome text = (mailmap : Text) × (mailmaps ≡ mailmap ∷ []) × IsPruned mailmap text
     × (first_read_otherwise mailmaps ≡ None) × (outcome ≡ Clean)
 
-abbrev pub IsPrunedBy : (Text → AtPath) → Option Text → Wanted → Outcome → Text → Type 0
-IsPrunedBy at input w outcome text =
-    (mailmaps : List Text) × AreMailmaps at input w mailmaps × IsPrunedFrom mailmaps outcome text
+-- the text is made from the mailmaps
+abbrev pub OfMailmaps : (List Text → Outcome → Text → Type 0) → (Text → AtPath) → Option Text → Wanted → Outcome → Text
+    → Type 0
+OfMailmaps IsMade at input w outcome text =
+    (mailmaps : List Text) × AreMailmaps at input w mailmaps × IsMade mailmaps outcome text
 
 -- the text is made from the mailmaps and the contacts
-abbrev pub WithLines : (List Text → Text → Outcome → Text → Type 0) → (Text → AtPath) → Option Text → Wanted → List Text
-    → Outcome → Text → Type 0
-WithLines IsMade at input w mailmaps outcome text =
-    (lines : Text) × AreContacts at w.contacts input lines × IsMade mailmaps lines outcome text
-
 abbrev pub WithContacts : (List Text → Text → Outcome → Text → Type 0) → (Text → AtPath) → Option Text → Wanted → Outcome
     → Text → Type 0
-WithContacts IsMade at input w outcome text =
-    (mailmaps : List Text) × AreMailmaps at input w mailmaps × WithLines IsMade at input w mailmaps outcome text
+WithContacts IsMade at input w = OfMailmaps
+    (λ mailmaps outcome text. (lines : Text) × AreContacts at w.contacts input lines × IsMade mailmaps lines outcome text)
+    at input w
 
 -- the lines of a suggestion are no finding
 abbrev pub suggestion_piece : Suggestion → Piece
@@ -122,17 +116,11 @@ FailsForContacts at contacts (Run Memory) = ⊤
 FailsForContacts at contacts (NoContacts cause) = (is_dash contacts ≡ false) × HasCause (at contacts) cause
 FailsForContacts at contacts _ = ⊥
 
--- With these mailmaps, such a request can fail in this way. The position is that of the mailmap's first line that git
--- reads in another way.
-abbrev pub FailsOn : (Text → AtPath) → Wanted → List Text → TaskFailure → Type 0
-FailsOn at w mailmaps (Run (File number cause)) = ⊥
-FailsOn at w mailmaps (Run (Input cause)) = reads_contacts w.mode w.contacts ≡ true
-FailsOn at w mailmaps (Run _) = ⊤
-FailsOn at w mailmaps (NoContacts cause) =
-    (takes_contacts w.mode ≡ true) × FailsForContacts at w.contacts (NoContacts cause)
-FailsOn at w mailmaps TooManyFiles = ⊥
-FailsOn at w mailmaps (ReadOtherwise position) =
-    (w.mode ≡ Prune) × (length mailmaps ≡ 1) × (first_read_otherwise mailmaps ≡ Some position)
+-- Pruning the mailmap can fail in this way. The position is that of the first line that git reads in another way.
+abbrev pub FailsToPrune : List Text → TaskFailure → Type 0
+FailsToPrune mailmaps (ReadOtherwise position) =
+    (length mailmaps ≡ 1) × (first_read_otherwise mailmaps ≡ Some position)
+FailsToPrune mailmaps failure = EndsPrinting failure
 
 -- Such a request can fail in this way. A file that can't be read is named by its number among the paths, from 1. The
 -- contacts are read after the mailmaps.
@@ -141,7 +129,10 @@ FailsFor at input w (Run (File number cause)) = NamesFile at w.paths (File numbe
 FailsFor at input w (Run (Input cause)) = ReadsInput w
 FailsFor at input w (Run _) = ⊤
 FailsFor at input w TooManyFiles = (w.mode ≡ Prune) × (1 < length w.paths)
-FailsFor at input w failure = (mailmaps : List Text) × AreMailmaps at input w mailmaps × FailsOn at w mailmaps failure
+FailsFor at input w (NoContacts cause) = (mailmaps : List Text) × AreMailmaps at input w mailmaps
+    × (takes_contacts w.mode ≡ true) × FailsForContacts at w.contacts (NoContacts cause)
+FailsFor at input w (ReadOtherwise position) = (mailmaps : List Text) × AreMailmaps at input w mailmaps
+    × (w.mode ≡ Prune) × FailsToPrune mailmaps (ReadOtherwise position)
 
 -- ---- what a run has written
 

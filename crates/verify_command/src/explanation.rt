@@ -1,23 +1,19 @@
 //! Explains contacts line by line, while they are read.
-ghost use Rattle.std.specs.Prelude.{◌≡◌, ◌++◌, IfErr, IfOk, OnErr, OnOk, map};
-ghost use Rattle.mailmap_redundancy.specs.Origins.{origins};
+ghost use Rattle.std.specs.Prelude.{◌≡◌, ◌⊎◌, ◌++◌, IfErr, IfOk, OnErr, OnOk};
 ghost use Rattle.mailmap_entries.specs.Semantics.{answer_of};
-ghost use Rattle.mailmap_findings.specs.Positions.{located_lines, located};
-ghost use Rattle.mailmap_redundancy.specs.Redundancy.{AreEffective, entries};
-ghost use Rattle.verify_command.specs.Explained.{explained_line, mapped_text, each_line};
-ghost use Rattle.std.specs.Io.KnownBytes.{IsAtEnd};
-ghost use Rattle.command_line.specs.Files.{AreRead, AtPath, texts};
-ghost use Rattle.mailmap_entries.specs.Folding.{Text};
-ghost use Rattle.verify_command.specs.Task.{FailsOn, LeavesExplained, wanted_of};
 ghost use Rattle.mailmap_findings.proofs.WholeLines.{whole_in_order};
+ghost use Rattle.mailmap_redundancy.specs.Origins.{origins};
+ghost use Rattle.mailmap_redundancy.specs.Redundancy.{entries};
+ghost use Rattle.command_line.specs.Answering.{LeavesLines};
+ghost use Rattle.command_line.specs.Failures.{IsOfInput};
+ghost use Rattle.command_line.specs.Files.{texts};
+ghost use Rattle.verify_command.specs.Explained.{AreGrounds, each_line, explained_line, mapped_text};
 
-use crate::asked::{Mode, Request};
-use crate::failure::TaskFailure;
 use crate::report::{push_positions, shown_line};
 use answer_cache::{AnswerCache, hash_of};
 use bstr::ByteSlice;
 use command_line::answering::{LineAnswers, answer_lines};
-use command_line::outcome::Outcome;
+use command_line::failure::Failure;
 use mailmap_findings::explain::Explanations;
 use mailmap_findings::verify::Mailmaps;
 use mailmap_grammar::contacts::{ParsedContact, parse_name_and_email, trim};
@@ -68,9 +64,7 @@ impl<'p, 'm, 'a> Explainer<'p, 'm, 'a> {
         paths: &'p [Vec<u8>],
         mailmaps: &'m Mailmaps<'_, 'a>,
     ) -> Result<Explainer<'p, 'm, 'a>, AllocError>
-        ensures paths { IfOk result (λ s. s.paths ≡ map (λ path. path.items) paths.now) }
-        ensures history { IfOk result (λ s. s.history ≡ located (located_lines mailmaps.now)) }
-        ensures effective { IfOk result (λ s. AreEffective s.history s.kept) }
+        ensures { IfOk result (AreGrounds (texts paths.now) mailmaps.now) }
     {
         Ok(Explainer {
             alloc,
@@ -148,33 +142,24 @@ impl<'p, 'm, 'a> Explainer<'p, 'm, 'a> {
     }
 }
 
-/// Explains the contacts on the input using the mailmaps in buffers.
+/// Explains the contacts on the input with `explainer`.
 ///
 /// Output is written as lines come in, as [`answer_lines`] does. The first failure ends the run.
 pub(crate) fn explain<R: Read, W: Write>(
     alloc: Global,
-    request: &Request,
-    buffers: &[&[u8]],
+    explainer: Explainer<'_, '_, '_>,
     input: &mut R,
     output: &mut W,
-) -> Result<Outcome, TaskFailure>
-    requires { request.now.mode ≡ Mode.Explain }
+) -> Result<(), Failure>
     // All of the input is read, and exactly its explanations are written. After a failure, those of the first whole
     // lines are, or a prefix of them.
-    ensures leaves { (at : Text → AtPath)
-        → AreRead at (texts request.now.paths.items) (map (λ b. b.now) buffers.now)
-        → LeavesExplained at (texts request.now.paths.items) (R.remaining input.old)
-        (R.remaining input.new) W.contents output.old output.new result }
-    ensures reads_all { OnOk result (IsAtEnd (R.remaining input.new)) }
-    ensures fails { (at : Text → AtPath)
-        → IfErr result (FailsOn at (wanted_of request.now) (map (λ b. b.now) buffers.now)) }
+    ensures leaves { LeavesLines (each_line (explained_line explainer.entry)) (R.remaining input.old)
+        (R.remaining input.new) (W.contents output.old) (W.contents output.new) result }
+    ensures only { IfErr result (λ e. IsOfInput e ⊎ (e ≡ Failure.Memory) ⊎ (e ≡ Failure.Output)) }
 {
-    let mailmaps = Mailmaps::read(alloc, buffers)?;
-    let explainer = Explainer::new(alloc, request.paths.as_slice(), &mailmaps)?;
     let kept = Vec::new(alloc);
     let mut lines = ExplainedLines { explainer, kept };
-    answer_lines(alloc, &mut lines, input, output)?;
-    Ok(Outcome::Clean)
+    answer_lines(alloc, &mut lines, input, output)
 }
 
 // The lines of an input, which an explainer explains.

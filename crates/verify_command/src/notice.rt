@@ -94,12 +94,12 @@ pub(crate) fn contact_notice<'n>(
 {
     let mut message = Vec::new(alloc);
     push_contact_words(&mut message, finding)?;
-    let line = first_line(finding);
+    let (line, other) = line_and_other(file, finding);
     Ok(Notice {
         kind: Kind::of_contact_finding(finding),
         place: Place { file, line },
         message,
-        other: compared_line(file, finding),
+        other,
     })
 }
 
@@ -114,27 +114,20 @@ fn referred_line<'a>(names: &'a [Vec<u8>], kind: &FindingKind<'_>) -> Option<Pla
     }
 }
 
-// The first line with the answer that another one is compared with.
-fn compared_line<'a>(file: &'a [u8], finding: &ContactFinding<'_, '_>) -> Option<Place<'a>>
-    ensures { option_map file_line_of result ≡ compared_line file.now (finding_view finding.now) }
+// The first line of what a finding is about, and that of the answer that it is compared with, if there is one.
+fn line_and_other<'a>(
+    file: &'a [u8],
+    finding: &ContactFinding<'_, '_>,
+) -> (usize, Option<Place<'a>>)
+    ensures line { result.0 ≡ first_line_of (finding_view finding.now) }
+    ensures other { option_map file_line_of result.1 ≡ compared_line file.now (finding_view finding.now) }
 {
     match finding {
-        ContactFinding::NoContact(_) | ContactFinding::GitAnswers(_) => None,
-        ContactFinding::Shares(_, _, proper) => Some(Place {
-            file,
-            line: proper.seen.first_line,
-        }),
-    }
-}
-
-// The first line of the contact that a finding is about.
-fn first_line(finding: &ContactFinding<'_, '_>) -> usize
-    ensures { result ≡ first_line_of (finding_view finding.now) }
-{
-    match finding {
-        ContactFinding::NoContact(line) => *line,
-        ContactFinding::Shares(_, answer, _) | ContactFinding::GitAnswers(answer) => {
-            answer.seen.first_line
+        ContactFinding::NoContact(line) => (*line, None),
+        ContactFinding::GitAnswers(answer) => (answer.seen.first_line, None),
+        ContactFinding::Shares(_, answer, proper) => {
+            let line = proper.seen.first_line;
+            (answer.seen.first_line, Some(Place { file, line }))
         }
     }
 }

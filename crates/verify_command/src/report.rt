@@ -1,19 +1,16 @@
 //! Findings and notices as text, printed in pieces.
-ghost use Rattle.std.specs.Prelude.{◌≡◌, ◌++◌, ◌∷◌, ℕ, codes, false, map, option_to_list, take, true, IfErr, IfOk};
-ghost use Rattle.std.specs.Prelude.{OnErr, OnOk, List, if◌then◌else◌};
+ghost use Rattle.std.specs.Prelude.{◌≡◌, ◌++◌, ◌∷◌, IfErr, IfOk, List, OnOk, if◌then◌else◌, map, option_to_list, true};
 ghost use Rattle.std.specs.List.{list_any};
-ghost use Rattle.std.specs.Io.KnownBytes.{Appends};
 ghost use Rattle.mailmap_findings.specs.Findings.{contact_of, kind_of};
 ghost use Rattle.mailmap_grammar.specs.Lines.{fault_of};
 ghost use Rattle.command_line.specs.Files.{texts};
 ghost use Rattle.verify_command.specs.Json.{file_line_of, notice_of};
 ghost use Rattle.verify_command.specs.Report.{Piece as ThePiece, contact_text, cure_text, entry_text, fault_text};
 ghost use Rattle.verify_command.specs.Report.{file_name, finding_piece, git_text, is_email_byte, message_text};
-ghost use Rattle.verify_command.specs.Report.{notice_piece, notice_text, outcome_of, piece_of, place_at, place_text};
-ghost use Rattle.verify_command.specs.Report.{position_text, positions_text, report, reported_text, says_text};
-ghost use Rattle.verify_command.specs.Report.{shortened, shown_line, text_of};
+ghost use Rattle.verify_command.specs.Report.{Says, notice_piece, notice_text, piece_of, place_at, place_text};
+ghost use Rattle.verify_command.specs.Report.{position_text, positions_text, reported_text, says_text, shortened, shown_line};
 ghost use Rattle.verify_command.specs.Settings.{choices_of};
-ghost use Rattle.verify_command.specs.Task.{EndsPrinting, IsReportOn, Leaves, wanted_of};
+ghost use Rattle.verify_command.specs.Task.{EndsPrinting, IsReport, Leaves, wanted_of};
 ghost use Rattle.std.specs.Iterator.{YieldsFirstBy};
 ghost use Rattle.command_line.specs.declared.outcome.Outcome.TheVariants.{Found as TheFound};
 ghost use Rattle.std.specs.Option.{option_copied, option_map};
@@ -47,7 +44,7 @@ pub(crate) fn verify<W: Write>(
     buffers: &[&[u8]],
     output: &mut W,
 ) -> Result<Outcome, TaskFailure>
-    ensures leaves { Leaves true (IsReportOn (wanted_of request.now) (map (λ b. b.now) buffers.now))
+    ensures leaves { Leaves true (IsReport (wanted_of request.now) (map (λ b. b.now) buffers.now))
         W.contents output.old output.new result }
     ensures only { IfErr result EndsPrinting }
 {
@@ -82,12 +79,9 @@ pub fn print_findings<W: Write>(
     findings: Findings<'_, '_>,
     output: &mut W,
 ) -> Result<Outcome, TaskFailure>
-    ensures ok { IfOk result (λ outcome.
-        (outcome ≡ outcome_of (map (finding_piece (choices_of settings.now) (texts paths.now)) findings.entry))
-        × Appends (W.contents output.old) (W.contents output.new)
-        (report (choices_of settings.now) (texts paths.now) findings.entry)) }
-    ensures err { OnErr result ((count : ℕ) × Appends (W.contents output.old) (W.contents output.new)
-        (take count (report (choices_of settings.now) (texts paths.now) findings.entry))) }
+    ensures leaves { Leaves true (λ outcome text. Says outcome text
+        (map (finding_piece (choices_of settings.now) (texts paths.now)) findings.entry))
+        W.contents output.old output.new result }
     ensures only { IfErr result EndsPrinting }
 {
     let pieces = FindingPieces {
@@ -349,10 +343,8 @@ pub(crate) fn print_pieces<S: Pieces + Drop, W: Write>(
     mut pieces: S,
     output: &mut W,
 ) -> Result<Outcome, TaskFailure>
-    ensures ok { IfOk result (λ outcome. (outcome ≡ outcome_of (S.left pieces))
-        × Appends (W.contents output.old) (W.contents output.new) (text_of (S.left pieces))) }
-    ensures err { OnErr result ((count : ℕ) × Appends (W.contents output.old) (W.contents output.new)
-        (take count (text_of (S.left pieces)))) }
+    ensures leaves { Leaves true (λ outcome text. Says outcome text (S.left pieces))
+        W.contents output.old output.new result }
     ensures only { IfErr result EndsPrinting }
 {
     let mut printer = Printer::new(alloc)?;

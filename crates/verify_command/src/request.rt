@@ -3,7 +3,7 @@ ghost use Rattle.std.specs.Prelude.{◌≡◌, [], Err, Ok, drop, false, length,
 ghost use Rattle.std.specs.Option.{option_copied};
 ghost use Rattle.std.specs.Vec.Iter.{into_iter_items, into_iter_len};
 ghost use Rattle.command_line.specs.Files.{texts};
-ghost use Rattle.verify_command.specs.Arguments.{IsAsked, asked, can_be_mailmap, checked, contacts_name, equals_in};
+ghost use Rattle.verify_command.specs.Arguments.{IsAsked, asked, can_be_mailmap, checked, contacts_name};
 ghost use Rattle.verify_command.specs.Arguments.{finished, format_named, is_only_dash, level_named, name_in, plain, reads_mailmap};
 ghost use Rattle.verify_command.specs.Arguments.{reports, setting_named, setting_word, unused_setting};
 ghost use Rattle.verify_command.specs.Arguments.{value_in, wanted_of, with_excluded, with_mode, with_paths, with_setting};
@@ -292,17 +292,10 @@ fn parts(argument: &[u8]) -> (&[u8], Option<&[u8]>)
     ensures name { result.0.now ≡ name_in argument.now }
     ensures value { option_copied result.1 ≡ value_in argument.now }
 {
-    match equals_in(argument) {
-        Some(at) => (&argument[..at], Some(&argument[at + 1..])),
+    match argument.split_once_str(b"=") {
+        Some((name, value)) => (name, Some(value)),
         None => (argument, None),
     }
-}
-
-// The index of the first `=`.
-fn equals_in(argument: &[u8]) -> Option<usize>
-    ensures { result ≡ equals_in argument.now }
-{
-    argument.iter().position(|byte| *byte == b'=')
 }
 
 fn setting_named(name: &[u8]) -> Option<Setting>

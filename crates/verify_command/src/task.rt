@@ -1,16 +1,16 @@
 //! Runs what the arguments of `mailmap_verify` ask for.
-ghost use Rattle.std.specs.Prelude.{◌≡◌, ◌<◌, ◌∷◌, [], IfErr, IfOk, IsErrOf, OnOk, false, length, map, true};
+ghost use Rattle.std.specs.Prelude.{◌≡◌, ◌<◌, IfErr, IfOk, IsErrOf, OnOk, false, length, map, true};
 ghost use Rattle.std.specs.Io.KnownBytes.{IsAtEnd};
-ghost use Rattle.command_line.specs.Files.{AreRead, texts};
+ghost use Rattle.command_line.specs.Files.{texts};
 ghost use Rattle.verify_command.specs.Report.{IsReportBeside};
-ghost use Rattle.verify_command.specs.Task.{AreMailmaps, AreSuggested, EndsPrinting, FailsFor, FailsToRead, FailsOn};
-ghost use Rattle.verify_command.specs.Task.{IsKnown, IsOfMailmap, IsPrunedBy, IsPrunedFrom, IsReport, IsReportOn, Leaves};
-ghost use Rattle.verify_command.specs.Task.{LeavesExplained, ReadsInput, WithContacts, WithLines, reads_contacts};
-ghost use Rattle.verify_command.specs.Task.{reads_mailmap, version_line, wanted_of};
+ghost use Rattle.verify_command.specs.Task.{AreMailmaps, AreSuggested, EndsPrinting, FailsFor, FailsToPrune, FailsToRead};
+ghost use Rattle.verify_command.specs.Task.{IsKnown, IsOfMailmap, IsPrunedFrom, IsReport, Leaves, LeavesExplained};
+ghost use Rattle.verify_command.specs.Task.{OfMailmaps, ReadsInput, WithContacts, reads_contacts, reads_mailmap};
+ghost use Rattle.verify_command.specs.Task.{version_line, wanted_of};
 
 pub use crate::asked::{Format, Mode, ParseError, Request, Setting, Settings, USAGE};
 use crate::contacts::{print_report, print_suggestions, read_contacts};
-use crate::explanation::explain;
+use crate::explanation::{Explainer, explain};
 use crate::failure::TaskFailure;
 use crate::report::verify;
 pub use crate::request::request_of;
@@ -19,7 +19,7 @@ use command_line::failure::Failure;
 use command_line::files::{FileSystem, list_of, read_files};
 use command_line::outcome::Outcome;
 use command_line::streams::{read_input, write_all};
-use mailmap_findings::verify::{first_read_otherwise, prune};
+use mailmap_findings::verify::{Mailmaps, first_read_otherwise, prune};
 use std::alloc::{AllocError, Global};
 use std::io::{Read, Write};
 
@@ -41,10 +41,10 @@ pub fn perform<F: FileSystem, R: Read, W: Write>(
         W.contents output.old output.new result }
     ensures version { request.now.mode ≡ Mode.Version → Leaves false (IsKnown version_line)
         W.contents output.old output.new result }
-    ensures report { request.now.mode ≡ Mode.Verify → Leaves true (IsReport (F.at system.now) (R.remaining input.old)
-        (wanted_of request.now)) W.contents output.old output.new result }
-    ensures pruned { request.now.mode ≡ Mode.Prune → Leaves false (IsPrunedBy (F.at system.now) (R.remaining input.old)
-        (wanted_of request.now)) W.contents output.old output.new result }
+    ensures report { request.now.mode ≡ Mode.Verify → Leaves true (OfMailmaps (IsReport (wanted_of request.now))
+        (F.at system.now) (R.remaining input.old) (wanted_of request.now)) W.contents output.old output.new result }
+    ensures pruned { request.now.mode ≡ Mode.Prune → Leaves false (OfMailmaps IsPrunedFrom
+        (F.at system.now) (R.remaining input.old) (wanted_of request.now)) W.contents output.old output.new result }
     ensures with_contacts { request.now.mode ≡ Mode.Contacts → Leaves true
         (WithContacts (IsReportBeside (wanted_of request.now)) (F.at system.now) (R.remaining input.old)
         (wanted_of request.now)) W.contents output.old output.new result }
@@ -75,8 +75,26 @@ pub fn perform<F: FileSystem, R: Read, W: Write>(
         Mode::Prune if 1 < request.paths.len() => Err(TaskFailure::TooManyFiles),
         _ => {
             let mailmaps = read_mailmaps(system, alloc, request, input)?;
-            let buffers = list_of(alloc, mailmaps.as_slice())?;
-            perform_with(system, alloc, request, buffers.as_slice(), input, output)
+            let list = list_of(alloc, mailmaps.as_slice())?;
+            let buffers = list.as_slice();
+            match request.mode {
+                Mode::Prune => print_pruned(alloc, buffers, output),
+                Mode::Explain => {
+                    let mailmaps = Mailmaps::read(alloc, buffers)?;
+                    let explainer = Explainer::new(alloc, request.paths.as_slice(), &mailmaps)?;
+                    explain(alloc, explainer, input, output)?;
+                    Ok(Outcome::Clean)
+                }
+                Mode::Contacts => {
+                    let counted = read_contacts(system, alloc, request, input)?;
+                    print_report(alloc, request, buffers, &counted, output)
+                }
+                Mode::Suggest => {
+                    let counted = read_contacts(system, alloc, request, input)?;
+                    print_suggestions(alloc, buffers, &counted, output)
+                }
+                _ => verify(alloc, request, buffers, output),
+            }
         }
     }
 }
@@ -102,58 +120,24 @@ fn read_mailmaps<F: FileSystem, R: Read>(
     Ok(mailmaps)
 }
 
-/// Does what is asked for with the mailmaps in buffers.
-fn perform_with<F: FileSystem, R: Read, W: Write>(
-    system: &F,
+// Prints a mailmap without its lines that have no effect, if git reads each of its lines as the library does.
+fn print_pruned<W: Write>(
     alloc: Global,
-    request: &Request,
     buffers: &[&[u8]],
-    input: &mut R,
     output: &mut W,
 ) -> Result<Outcome, TaskFailure>
-    ensures report { request.now.mode ≡ Mode.Verify → Leaves true (IsReportOn (wanted_of request.now)
-        (map (λ b. b.now) buffers.now)) W.contents output.old output.new result }
-    ensures pruned { request.now.mode ≡ Mode.Prune → Leaves false (IsPrunedFrom (map (λ b. b.now) buffers.now))
-        W.contents output.old output.new result }
-    ensures with_contacts { request.now.mode ≡ Mode.Contacts → Leaves true
-        (WithLines (IsReportBeside (wanted_of request.now)) (F.at system.now) (R.remaining input.old)
-        (wanted_of request.now) (map (λ b. b.now) buffers.now)) W.contents output.old output.new result }
-    ensures suggested { request.now.mode ≡ Mode.Suggest → Leaves true
-        (WithLines AreSuggested (F.at system.now) (R.remaining input.old) (wanted_of request.now)
-        (map (λ b. b.now) buffers.now)) W.contents output.old output.new result }
-    ensures explained { request.now.mode ≡ Mode.Explain
-        → AreRead (F.at system.now) (texts request.now.paths.items) (map (λ b. b.now) buffers.now)
-        → LeavesExplained (F.at system.now) (texts request.now.paths.items) (R.remaining input.old)
-        (R.remaining input.new) W.contents output.old output.new result }
-    ensures reads_all { reads_contacts request.now.mode request.now.contacts.items ≡ true
-        → OnOk result (IsAtEnd (R.remaining input.new)) }
-    ensures unread { reads_contacts request.now.mode request.now.contacts.items ≡ false → input.new ≡ input.old }
-    ensures fails { IfErr result (FailsOn (F.at system.now) (wanted_of request.now) (map (λ b. b.now) buffers.now)) }
+    ensures leaves { Leaves false (IsPrunedFrom (map (λ b. b.now) buffers.now)) W.contents output.old output.new result }
+    ensures fails { IfErr result (FailsToPrune (map (λ b. b.now) buffers.now)) }
 {
-    match request.mode {
-        // A mailmap is pruned only if git reads each of its lines as the library does.
-        Mode::Prune => {
-            let [mailmap] = buffers else {
-                // Not reached: it is the input, or the file at the only path.
-                return Err(TaskFailure::Run(Failure::Memory));
-            };
-            if let Some(position) = first_read_otherwise(buffers) {
-                return Err(TaskFailure::ReadOtherwise { position });
-            }
-            let text = prune(alloc, mailmap)?;
-            print_text(output, text.as_slice())
-        }
-        Mode::Explain => explain(alloc, request, buffers, input, output),
-        Mode::Contacts => {
-            let counted = read_contacts(system, alloc, request, input)?;
-            print_report(alloc, request, buffers, &counted, output)
-        }
-        Mode::Suggest => {
-            let counted = read_contacts(system, alloc, request, input)?;
-            print_suggestions(alloc, buffers, &counted, output)
-        }
-        _ => verify(alloc, request, buffers, output),
+    let [mailmap] = buffers else {
+        // Not reached, since `perform` refuses several paths: it is the input, or the file at the only path.
+        return Err(TaskFailure::Run(Failure::Memory));
+    };
+    if let Some(position) = first_read_otherwise(buffers) {
+        return Err(TaskFailure::ReadOtherwise { position });
     }
+    let text = prune(alloc, mailmap)?;
+    print_text(output, text.as_slice())
 }
 
 /// Writes a text in which nothing is found.

@@ -24,7 +24,7 @@ loop-taken-preserved g c =
     let h = c.loop-taken.invariant in (
       rw (← slices c.loop-taken.taken c.in_ok-taken.field-0 c.args.part.now) (more_answered (g.A.LineAnswers.answers c.args.answerer.now) (g.met.A.LineAnswers.in_order c.args.answerer.now) h.0
           (λ made is. Appends-trans (g.W.Write.contents c.args.output.now) (g.W.Write.contents c.loop-taken.output) (g.W.Write.contents c.write_unflushed.new.writer) h.0.made made h.0.is_made
-          (rw (c.as_slice.ensures.value ∙ is ∙ ap (λ t. t ++ made) c.clear.ensures.items) at c.in_ok-write_unflushed.ensures.ok))
+          (rw (c.as_slice.ensures.value ∙ is ∙ ap (λ t. t ++ made) c.clear.ensures.items) at c.in_ok-write_unflushed.ensures.writes.ok))
           (rw h.1 at c.in_ok-taken.ensures.answers)),
       c.push_lines.ensures.same ∙ h.1,
     )
@@ -43,7 +43,7 @@ returns-in_err-write_unflushed-clause-err g c =
     let after = g.W.Write.contents c.write_unflushed.new.writer in
     let failed : c.from_residual-in_err-write_unflushed.result ≡ Err e = search rules in
     let first = cut answers in_order (drop count rest) between after e c.in_err-write_unflushed.ensures.only c.clear.ensures.items c.as_slice.ensures.value
-    (rw h.1 at c.in_ok-taken.ensures.answers) c.in_err-write_unflushed.ensures.err in
+    (rw h.1 at c.in_ok-taken.ensures.answers) c.in_err-write_unflushed.ensures.writes.err in
     rw failed (rw (take_rest part taken, take-append-drop taken part) at (stopped answers in_order rest (g.W.Write.contents c.args.output.now) between after e h.0 (rw (take-append-drop count rest) at first)))
 
 pub returns-clause-err : goal.returns-clause-err

@@ -1,15 +1,14 @@
-use Rattle.std.proofs.Common.{◌≡◌, ◌∙◌, All, ap, map, refl, rules, subst, sym}
+use Rattle.std.proofs.Common.{◌≡◌, ◌∙◌, map, rules, subst, sym}
 use Rattle.std.specs.List.Sorted.{IsNonDecreasingBy}
 use Rattle.std.proofs.lemmas.Bool.{MatchBool-at_true}
-use Rattle.std.proofs.lemmas.List.Sorted.{All-permutation, IsNonDecreasingBy-from_all_adjacent, IsNonDecreasingBy-from_sort_by_key, IsPermutation-refl, answers_always}
+use Rattle.std.proofs.lemmas.List.Sorted.{All-permutation, IsNonDecreasingBy-from_all_adjacent, answers_always}
 use Rattle.mailmap_entries.proofs.Results.{if_ok_map}
-use Rattle.mailmap_batches.specs.Batches.{IsSorted, IsSortedFrom, email_prefix, indexed_mapping}
-use Rattle.mailmap_batches.proofs.SortedGroups.{HasBytes, le_from_answer, sorted_from}
+use Rattle.mailmap_batches.specs.Batches.{email_prefix}
+use Rattle.mailmap_batches.proofs.SortedGroups.{HasBytes, kept, le_from_answer, sorted_from}
 use Rattle.mailmap_batches.proofs.batch.sorted.Goals as goal
 
 pub sorted_groups-requires-clause-bytes : goal.sorted_groups-requires-clause-bytes
-sorted_groups-requires-clause-bytes g c =
-    subst (All HasBytes) (sym c.deref-then-is_sorted_by_key.ensures.value) c.in_ok-batch.ensures.bytes
+sorted_groups-requires-clause-bytes g c = rw c.deref-then-is_sorted_by_key.ensures.value c.in_ok-batch.ensures.bytes
 
 pub sorted_groups-requires-clause-ascending : goal.sorted_groups-requires-clause-ascending
 sorted_groups-requires-clause-ascending g c =
@@ -21,29 +20,16 @@ sorted_groups-requires-clause-ascending g c =
 pub returns-then-is_sorted_by_key : goal.returns-then-is_sorted_by_key
 returns-then-is_sorted_by_key g c =
     let batch = c.in_ok-batch.batch.items in
-    if_ok_map c.sorted_groups.result (λ made. IsSortedFrom c.deref-then-is_sorted_by_key.result.now made.items)
-    (λ made. IsSorted (map g.T.HasEntry.mapped c.args.entries.now) (map indexed_mapping made.items))
-    (λ made sorted. sorted_from (map g.T.HasEntry.mapped c.args.entries.now) batch batch made.items
-    c.in_ok-batch.ensures.indexed (IsPermutation-refl batch) (λ x. refl)
-    (subst (λ l. IsSortedFrom l made.items) c.deref-then-is_sorted_by_key.ensures.value sorted)) c.sorted_groups.ensures
+    if_ok_map c.sorted_groups.result _ _ (λ made sorted. sorted_from (map g.T.HasEntry.mapped c.args.entries.now) batch batch
+    made.items c.in_ok-batch.ensures.indexed (kept batch) (rw c.deref-then-is_sorted_by_key.ensures.value at sorted))
+    c.sorted_groups.ensures
 
 pub sorted_groups-requires-2-clause-bytes : goal.sorted_groups-requires-2-clause-bytes
-sorted_groups-requires-2-clause-bytes g c = subst (All HasBytes) (sym c.deref-3.ensures.value)
-    (All-permutation HasBytes _ _ c.sort_by_key.ensures.permutation
-    (subst (All HasBytes) (sym (c.in_ok-prefixed.ensures ∙ c.deref-2.ensures.value)) c.in_ok-batch.ensures.bytes))
-
-pub sorted_groups-requires-2-clause-ascending : goal.sorted_groups-requires-2-clause-ascending
-sorted_groups-requires-2-clause-ascending g c = subst (IsNonDecreasingBy email_prefix) (sym c.deref-3.ensures.value)
-    (IsNonDecreasingBy-from_sort_by_key email_prefix _ c.in_ok-sort_by_key.ensures.sorted (λ a r q k. search rules))
+sorted_groups-requires-2-clause-bytes g c = rw c.deref-2.ensures.value
+    (All-permutation HasBytes _ _ c.in_ok-sorted_by_prefix.ensures.kept.moved c.in_ok-batch.ensures.bytes)
 
 pub returns : goal.returns
 returns g c =
-    let mid = c.sort_by_key.new.self.items in
-    let stable = c.sort_by_key.ensures.stable email_prefix
-    (answers_always _ (λ a r. r ≡ email_prefix a.0.now) _ (λ f a r f' k. search rules)) in
-    if_ok_map c.sorted_groups-2.result (λ made. IsSortedFrom c.deref-3.result.now made.items)
-    (λ made. IsSorted (map g.T.HasEntry.mapped c.args.entries.now) (map indexed_mapping made.items))
-    (λ made sorted. sorted_from (map g.T.HasEntry.mapped c.args.entries.now) c.in_ok-prefixed.prefixed.items mid made.items
-    (ap (map indexed_mapping) (c.in_ok-prefixed.ensures ∙ c.deref-2.ensures.value) ∙ c.in_ok-batch.ensures.indexed)
-    c.sort_by_key.ensures.permutation stable (subst (λ l. IsSortedFrom l made.items) c.deref-3.ensures.value sorted))
-    c.sorted_groups-2.ensures
+    if_ok_map c.sorted_groups-2.result _ _ (λ made sorted. sorted_from (map g.T.HasEntry.mapped c.args.entries.now)
+    c.in_ok-batch.batch.items c.in_ok-sorted_by_prefix.field-0.items made.items c.in_ok-batch.ensures.indexed
+    c.in_ok-sorted_by_prefix.ensures.kept (rw c.deref-2.ensures.value at sorted)) c.sorted_groups-2.ensures

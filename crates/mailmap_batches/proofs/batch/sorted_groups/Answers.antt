@@ -1,8 +1,8 @@
 use Rattle.std.proofs.Common.{◌≡◌, ◌++◌, ◌-◌, ap, drop, length, length-drop, length-take-le, arith, subst, sym, take_all, ◌∙◌}
 use Rattle.std.proofs.lemmas.List.Sorted.{length_permutation}
-use Rattle.mailmap_batches.specs.Batches.{IsSortedFrom}
+use Rattle.mailmap_batches.specs.Batches.{IsSortedFrom, KeepsOrder}
 use Rattle.mailmap_batches.specs.InOrder.{in_order}
-use Rattle.mailmap_batches.proofs.SortedGroups.{IsSortedTo, group_sorted, none_sorted, sorted_after}
+use Rattle.mailmap_batches.proofs.SortedGroups.{IsSortedTo, group_sorted, kept_then, none_sorted}
 use Rattle.mailmap_batches.proofs.batch.sorted_groups.Goals as goal
 
 pub loop-start-init : goal.loop-start-init
@@ -15,13 +15,14 @@ loop-start-preserved c =
     let xs = in_order c.args.entries.now in
     let end = c.in_ok-end.ensures in
     let group = c.sort_group.new.group.items in
+    let sorted = c.in_ok-sort_group.ensures in
     subst (IsSortedTo c.in_ok-end.end xs)
     (sym (c.in_ok-extend_from_slice.ensures.items ∙ ap (λ l. c.loop-start.batch.items ++ l) c.deref.ensures.value))
-    (group_sorted xs c.loop-start.batch.items group c.loop-start.start c.in_ok-end.end end.after end.within c.requires.bytes
-    c.requires.ascending end.greater c.loop-start.invariant
-    (subst (λ l. IsSortedFrom l group) end.group (sorted_after c.push_group.new.group.items
-    c.sort_name_prefixes.new.group.items group c.sort_name_prefixes.ensures.permutation
-    c.sort_name_prefixes.ensures.keyed c.in_ok-sort_group.ensures)))
+    (group_sorted xs c.loop-start.batch.items group c.loop-start.start c.in_ok-end.end end.after
+    end.within c.requires.bytes c.requires.ascending end.greater c.loop-start.invariant (record {
+      kept = subst (λ l. KeepsOrder l group) end.group (kept_then c.sort_name_prefixes.ensures sorted.kept);
+      ascending = sorted.ascending;
+    }))
 
 pub sort_group-requires : goal.sort_group-requires
 sort_group-requires c =
@@ -30,7 +31,7 @@ sort_group-requires c =
     let n = c.in_ok-end.end - c.loop-start.start in
     let some : length c.push_group.new.group.items ≡ n = ap length end.group
     ∙ length-take-le n (drop c.loop-start.start xs) (omega (arith, length-drop c.loop-start.start xs, end.within, end.after)) in
-    omega (arith, length_permutation _ _ c.sort_name_prefixes.ensures.permutation, some, end.after)
+    omega (arith, length_permutation _ _ c.sort_name_prefixes.ensures.moved, some, end.after)
 
 pub returns : goal.returns
 returns c = subst (λ l. IsSortedFrom l c.loop-start.batch.items)

@@ -1,12 +1,8 @@
-use Rattle.std.proofs.Common.{◌≡◌, ◌<◌, ◌++◌, [], map, length, take, arith}
+use Rattle.std.proofs.Common.{◌≡◌, ◌<◌, [], map, length, arith}
 use Rattle.std.proofs.lemmas.Grind.{common_steps}
 use Rattle.std.proofs.lemmas.List.{nil_from_length, take_rest}
 use Rattle.mailmap_entries.specs.Entries.{mapping_of}
-use Rattle.mailmap_entries.specs.Semantics.{IsNormal}
-use Rattle.mailmap_batches.specs.Batches.{IsSorted, indexed_mapping, mapping_at}
-use Rattle.mailmap_batches.specs.declared.indexed.IndexedEntry.{IndexedEntry}
-use Rattle.mailmap_tables.specs.Groups.{listing}
-use Rattle.mailmap_tables.specs.Put.{with_email}
+use Rattle.mailmap_batches.specs.Batches.{IsSorted, indexed_mapping}
 use Rattle.mailmap_tables.proofs.Built.{built_end, built_start, built_step, group_good}
 use Rattle.mailmap_tables.proofs.merge.built.Goals as goal
 
@@ -29,13 +25,9 @@ loop-left-preserved c =
     let len = c.email_group_len-len.result in
     let group = c.email_group_len-len.ensures in
     let some : 0 < length left = omega (arith, group.some, group.within) in
-    let put = c.in_ok-put_group.ensures in
-    let done : IsNormal (listing c.loop-left.tables.groups ++ map (λ (p : IndexedEntry). with_email
-    (mapping_at c.earliest.result).old_email (mapping_at p)) (take len left)) (listing c.put_group.new.tables.groups) =
-    rw (← c.old_email.ensures) put.1 in
     rw (take_rest left len)
     (built_step c.requires sorted len c.earliest.result c.loop-left.invariant some group.same group.other
-    c.earliest.ensures.among c.earliest.ensures.least put.0 done)
+    c.earliest.ensures.among c.earliest.ensures.least (rw (← c.old_email.ensures) c.in_ok-put_group.ensures))
 
 pub returns : goal.returns
 returns c =
@@ -43,4 +35,4 @@ returns c =
     let b = c.as_slice-left.result.now in
     let sorted : IsSorted xs (map indexed_mapping b) = rw c.as_slice-left.ensures.value c.in_ok-batch.ensures in
     let none : c.loop-left.left.now ≡ [] = nil_from_length _ (grind (arith, common_steps)) in
-    rw c.as_newly_built.ensures (c.loop-left.invariant.groups, built_end c.requires sorted (rw none at c.loop-left.invariant))
+    rw c.as_newly_built.ensures (built_end c.requires sorted (rw none at c.loop-left.invariant))

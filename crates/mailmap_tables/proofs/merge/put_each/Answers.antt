@@ -4,11 +4,11 @@ use Rattle.mailmap_entries.specs.Entries.{mapping_of}
 use Rattle.mailmap_entries.specs.Semantics.{is_accepted}
 use Rattle.mailmap_entries.specs.declared.entry.Entry.{Entry}
 use Rattle.mailmap_entries.proofs.Parts.{all_map}
-use Rattle.mailmap_tables.proofs.Merged.{all_put, none_put, one_put}
+use Rattle.mailmap_tables.proofs.Merged.{none_put, one_put}
 use Rattle.mailmap_tables.proofs.merge.put_each.Goals as goal
 
 pub loop-entry-init : goal.loop-entry-init
-loop-entry-init c = none_put mapping_of c.args.entries.now c.requires.groups
+loop-entry-init c = none_put c.requires.groups
 
 pub put-requires-clause-accepted : goal.put-requires-clause-accepted
 put-requires-clause-accepted c =
@@ -19,8 +19,5 @@ put-requires-clause-accepted c =
 
 pub loop-entry-preserved : goal.loop-entry-preserved
 loop-entry-preserved c =
-    one_put mapping_of c.args.entries.now c.entry-item.result c.loop-entry-test.true c.entry-item.is
-    c.loop-entry.invariant (rw c.old_email.ensures at c.in_ok-put.ensures.ok)
-
-pub returns : goal.returns
-returns c = all_put mapping_of c.args.entries.now c.loop-entry-test.false c.loop-entry.invariant
+    one_put mapping_of c.args.entries.now _ _ _ _ c.entry-item.result c.loop-entry-test.true c.entry-item.is
+    c.loop-entry.invariant (rw c.old_email.ensures at c.in_ok-put.ensures.ok).put

@@ -1,37 +1,30 @@
 use Rattle.std.proofs.Common.{ap, get_or}
+use Rattle.mailmap_entries.proofs.Alike.{alike_itself, alike_joined}
 use Rattle.mailmap_batches.specs.Batches.{mapping_at}
 use Rattle.mailmap_batches.specs.declared.indexed.IndexedEntry.{IndexedEntry}
 use Rattle.mailmap_tables.specs.Put.{with_email}
-use Rattle.mailmap_tables.proofs.Merged.{all_put, one_item, one_put, start_put}
+use Rattle.mailmap_tables.proofs.Merged.{one_item, one_put, put_alike}
 use Rattle.mailmap_tables.proofs.merge.put_group.Goals as goal
 
 pub loop-i-init : goal.loop-i-init
 loop-i-init c =
-    let email = c.args.email.now in
     let put = c.in_ok-index.ensures.ok in
     record {
-      put = start_put (λ (p : IndexedEntry). with_email email (mapping_at p)) c.args.group.now
-          (c.combined_start-count.ensures.alike email) put;
+      put = put_alike _ _ _ (alike_joined _ _ _ _ (alike_itself _)
+          (c.combined_start-count.ensures.alike c.args.email.now)) put.put;
       found = put.found;
     }
 
 pub loop-i-preserved : goal.loop-i-preserved
 loop-i-preserved c =
-    let email = c.args.email.now in
     let put = c.in_ok-put_at.ensures.ok in
     record {
-      put = one_put (λ (p : IndexedEntry). with_email email (mapping_at p)) c.args.group.now
+      put = one_put (λ (p : IndexedEntry). with_email c.args.email.now (mapping_at p)) c.args.group.now _ _ _ _
           (get_or c.args.group.now c.loop-i.i c.index-group-i.result) c.loop-i-test.true
-          (ap (get_or c.args.group.now c.loop-i.i) c.index-group-i.is) c.loop-i.invariant.put put;
+          (ap (get_or c.args.group.now c.loop-i.i) c.index-group-i.is) c.loop-i.invariant.put put.put;
       found = put.found;
     }
 
-pub returns : goal.returns
-returns c = all_put (λ (p : IndexedEntry). with_email c.args.email.now (mapping_at p)) c.args.group.now
-    c.loop-i-test.false c.loop-i.invariant.put
-
 pub returns-in-len1 : goal.returns-in-len1
-returns-in-len1 c =
-    let put = c.in_ok-put.ensures.ok in
-    rw (one_item c.args.group.now c.only-item.result c.in-len1.len_at_least c.in-len1.len_below c.only-item.is)
-    (put.groups, put.normal)
+returns-in-len1 c = rw (one_item c.args.group.now c.only-item.result c.in-len1.len_at_least c.in-len1.len_below
+    c.only-item.is) c.in_ok-put.ensures.ok.put

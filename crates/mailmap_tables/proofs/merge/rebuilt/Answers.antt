@@ -11,7 +11,7 @@ pub returns : goal.returns
 returns c =
     let existing = c.args.tables.now.groups in
     if_ok_map c.built.result _ _ (λ (made : Contents) d. (
-      d.0,
+      d.groups,
       normal_unique (listing existing) (listing made.groups) (listing existing)
-          (rw (c.deref.ensures.value, c.in_ok-listed.ensures) at d.1) (groups_normal existing c.requires),
+          (rw (c.deref.ensures.value, c.in_ok-listed.ensures) at d.normal) (groups_normal existing c.requires),
     )) c.built.ensures

@@ -1,4 +1,4 @@
-use Rattle.std.proofs.Common.{ap, flat_map, map}
+use Rattle.std.proofs.Common.{rules, ap, flat_map, map}
 use Rattle.std.proofs.lemmas.List.{drop_all, drop_more}
 use Rattle.std.proofs.lemmas.Result.{on_err_weaker, on_ok_weaker}
 use Rattle.mailmap_entries.proofs.Results.{on_err}
@@ -14,15 +14,20 @@ pub loop-answer-preserved : goal.loop-answer-preserved
 loop-answer-preserved g c = item-printed counted_text c.loop-answer.printer
     (ap (map answer_counted) (drop_more c.args.answers.now c.loop-answer.answer-index _ c.loop-answer-test.true)) c.loop-answer.invariant (rw c.line_parts.ensures at c.in_ok-print_pieces.ensures.ok)
 
-pub returns-in_err-print_pieces-clause-err : goal.returns-in_err-print_pieces-clause-err
-returns-in_err-print_pieces-clause-err g c = on_err c.from_residual.result _ (item-broken counted_text _ c.loop-answer.printer
-    (ap (map answer_counted) (drop_more c.args.answers.now c.loop-answer.answer-index _ c.loop-answer-test.true)) c.loop-answer.invariant (rw c.line_parts.ensures at c.in_err-print_pieces.ensures.err))
+pub returns-in_err-print_pieces-clause-writes : goal.returns-in_err-print_pieces-clause-writes
+returns-in_err-print_pieces-clause-writes g c = record {
+  ok = search rules;
+  err = on_err c.from_residual.result _ (item-broken counted_text _ c.loop-answer.printer
+      (ap (map answer_counted) (drop_more c.args.answers.now c.loop-answer.answer-index _ c.loop-answer-test.true))
+      c.loop-answer.invariant (rw c.line_parts.ensures at c.in_err-print_pieces.ensures.err));
+}
 
-pub returns-clause-ok : goal.returns-clause-ok
-returns-clause-ok g c =
+pub returns-clause-writes : goal.returns-clause-writes
+returns-clause-writes g c =
     let none = ap (map answer_counted) (drop_all c.loop-answer.answer-index c.args.answers.now c.loop-answer-test.false) in
-    on_ok_weaker c.flush.result (underway-whole _ (items-printed counted_text c.loop-answer.printer none c.loop-answer.invariant)) c.flush.ensures.ok
-
-pub returns-clause-err : goal.returns-clause-err
-returns-clause-err g c = on_err_weaker c.flush.result
-    (underway-broken _ c.loop-answer.printer (flat_map counted_text (map answer_counted _)) c.loop-answer.invariant) c.flush.ensures.err
+    record {
+      ok = on_ok_weaker c.flush.result (underway-whole _
+          (items-printed counted_text c.loop-answer.printer none c.loop-answer.invariant)) c.flush.ensures.writes.ok;
+      err = on_err_weaker c.flush.result (underway-broken _ c.loop-answer.printer
+          (flat_map counted_text (map answer_counted _)) c.loop-answer.invariant) c.flush.ensures.writes.err;
+    }

@@ -24,9 +24,9 @@ returns-clause-leaves g c = λ text are.
     let a = (goal.at.returns-clause-leaves g c).After-print_lines in
     record {
       prints = on_ok_weaker c.print_lines.result
-          (λ printed. (_, made g a text are, rw (a.in_ok-printer.ensures, a.as_slice.ensures.value) at printed)) c.print_lines.ensures.ok;
+          (λ printed. (_, made g a text are, rw (a.in_ok-printer.ensures, a.as_slice.ensures.value) at printed)) c.print_lines.ensures.writes.ok;
       breaks_off = λ failed. err_then c.print_lines.result _ _ (on_err_weaker c.print_lines.result
           (λ broken. (_, made g a text are, (broken.0, rw (a.in_ok-printer.ensures, a.as_slice.ensures.value) at broken.1)))
-          c.print_lines.ensures.err) failed;
+          c.print_lines.ensures.writes.err) failed;
       silent = search rules;
     }

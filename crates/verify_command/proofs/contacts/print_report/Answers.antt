@@ -10,9 +10,9 @@ use Rattle.mailmap_findings.proofs.Read.{mappings_of-located_lines}
 use Rattle.mailmap_findings.proofs.WholeLines.{lines-whole}
 use Rattle.mailmap_redundancy.specs.Redundancy.{entries}
 use Rattle.mailmap_suggestions.specs.Histories.{histories_of}
-use Rattle.verify_command.specs.Report.{AreFoundWith, outcome_of, pieces_beside, text_of}
+use Rattle.verify_command.specs.Report.{AreFoundWith, Says, pieces_beside}
 use Rattle.verify_command.specs.Settings.{choices_of, mailmap_names}
-use Rattle.verify_command.proofs.Leaving.{left_pieces}
+use Rattle.verify_command.proofs.Leaving.{leaves_weaker}
 use Rattle.verify_command.proofs.contacts.print_report.Goals as goal
 
 pub returns-clause-leaves : goal.returns-clause-leaves
@@ -42,7 +42,10 @@ returns-clause-leaves g c = λ taken counted.
     } in
     let names : map items c.mailmap_names-names.result.now ≡ mailmap_names (choices_of c.args.request.now.settings) (map items c.args.request.now.paths.items) = search rules in
     let of = λ (ns : List (List ℕ)) (file : List ℕ). pieces_beside (choices_of c.args.request.now.settings) ns file c.new-remarks.result found in
-    let pieces = of (map items c.mailmap_names-names.result.now) c.contacts_name-file.result.now in
-    left_pieces c.print_pieces.result (outcome_of pieces) (text_of pieces)
-    (c.new-remarks.result, found, remarks, about, ((λ i. text_of (of (names i) (c.contacts_name-file.ensures i))), (λ i. outcome_of (of (names i) (c.contacts_name-file.ensures i)))))
-    c.print_pieces.ensures.ok c.print_pieces.ensures.err c.print_pieces.ensures.only
+    leaves_weaker (λ o t says. (
+      c.new-remarks.result,
+      found,
+      remarks,
+      about,
+      subst (Says o t) (λ i. of (names i) (c.contacts_name-file.ensures i)) says,
+    )) c.print_pieces.ensures.leaves

@@ -11,9 +11,9 @@ use Rattle.mailmap_suggestions.specs.SuggestedText.{suggestions_text}
 use Rattle.mailmap_suggestions.specs.Suggestions.{Suggestion}
 use Rattle.mailmap_suggestions.specs.Views.{suggestion_of}
 use Rattle.mailmap_suggestions.proofs.Forms.{suggestions_said}
-use Rattle.verify_command.specs.Report.{outcome_of, text_of}
+use Rattle.verify_command.specs.Report.{outcome_of}
 use Rattle.verify_command.specs.Task.{suggestion_piece}
-use Rattle.verify_command.proofs.Leaving.{left_pieces}
+use Rattle.verify_command.proofs.Leaving.{leaves_weaker}
 use Rattle.verify_command.proofs.contacts.print_suggestions.Goals as goal
 
 -- suggestions aren't findings
@@ -28,6 +28,5 @@ returns-clause-leaves g c = λ taken counted.
     let found = map suggestion_of (iter_rest c.iter-found.result) in
     let found_is = ap (map suggestion_of) (c.iter-found.ensures.rest ∙ c.as_slice.ensures.value) ∙ c.in_ok-suggestions.ensures (whole_lines taken) are in
     let said = suggestions_said (histories_of (map now c.args.buffers.now)) (tallied (contacts_from 1 (whole_lines taken))) in
-    left_pieces c.print_pieces.result (outcome_of (map suggestion_piece found)) (text_of (map suggestion_piece found))
-    (flat_map-map (λ p. p.text) suggestion_piece found ∙ ap suggestions_text found_is ∙ said, none_count found)
-    c.print_pieces.ensures.ok c.print_pieces.ensures.err c.print_pieces.ensures.only
+    let shown = flat_map-map (λ p. p.text) suggestion_piece found ∙ ap suggestions_text found_is ∙ said in
+    leaves_weaker (λ o t says. (says.0 ∙ shown, says.1 ∙ none_count found)) c.print_pieces.ensures.leaves

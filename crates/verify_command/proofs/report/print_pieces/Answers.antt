@@ -1,4 +1,4 @@
-use Rattle.std.proofs.Common.{rules, ◌≡◌, ◌∙◌, ◌++◌, ◌∷◌, [], Bool, ap, arith, false, if◌then◌else◌, length, refl, subst, sym, true}
+use Rattle.std.proofs.Common.{rules, ◌≡◌, ◌∙◌, ◌++◌, ◌∷◌, [], Bool, ap, arith, false, if◌then◌else◌, length, Ok, refl, subst, sym, true}
 use Rattle.std.specs.Prelude.{◌||◌}
 use Rattle.std.proofs.KnownBytes.{Appends-nil}
 use Rattle.std.specs.List.{list_any}
@@ -8,6 +8,7 @@ use Rattle.command_line.specs.declared.outcome.Outcome.{Outcome}
 use Rattle.command_line.specs.declared.outcome.Outcome.TheVariants.{Found}
 use Rattle.command_line.proofs.Printed.{item-broken, item-printed, items-printed, underway-broken, underway-none, underway-whole}
 use Rattle.verify_command.specs.Report.{Piece, piece_of, text_of}
+use Rattle.verify_command.proofs.Leaving.{left_pieces}
 use Rattle.verify_command.proofs.report.print_pieces.Goals as goal
 
 -- the outcome after one more piece, before those that are left
@@ -39,24 +40,28 @@ loop-printer-smaller g c =
     let step : g.S.Pieces.left c.loop-printer.pieces ≡ piece_of c.in-Some.piece ∷ g.S.Pieces.left c.next_piece.new.self = search rules in
     omega (arith, ap length step)
 
-pub returns-in_err-print-clause-err : goal.returns-in_err-print-clause-err
-returns-in_err-print-clause-err g c =
+pub returns-in_err-print-clause-leaves : goal.returns-in_err-print-clause-leaves
+returns-in_err-print-clause-leaves g c =
     let step : g.S.Pieces.left c.loop-printer.pieces ≡ piece_of c.in-Some.piece ∷ g.S.Pieces.left c.next_piece.new.self = search rules in
-    on_err c.from_residual-in_err-print.result _ (item-broken (λ (p : Piece). p.text) _ c.loop-printer.printer step c.loop-printer.invariant.0 (rw c.as_slice.ensures.value at c.in_err-print.ensures.err))
+    let part = item-broken (λ (p : Piece). p.text) (g.W.Write.contents c.print.new.output) c.loop-printer.printer step c.loop-printer.invariant.0 (rw c.as_slice.ensures.value at c.in_err-print.ensures.err) in
+    left_pieces (g.S.Pieces.left c.args.pieces) c.from_residual-in_err-print.result (search rules) (on_err _ _ part) (search rules)
 
-pub returns-in_err-piece-clause-err : goal.returns-in_err-piece-clause-err
-returns-in_err-piece-clause-err g c =
+pub returns-in_err-piece-clause-leaves : goal.returns-in_err-piece-clause-leaves
+returns-in_err-piece-clause-leaves g c =
     let left = text_of (g.S.Pieces.left c.loop-printer.pieces) in
-    on_err c.from_residual-in_err-piece.result _ (underway-broken _ c.loop-printer.printer left c.loop-printer.invariant.0 (0, Appends-nil (g.W.Write.contents c.loop-printer.output)))
+    let part = underway-broken (g.W.Write.contents c.loop-printer.output) c.loop-printer.printer left c.loop-printer.invariant.0 (0, Appends-nil (g.W.Write.contents c.loop-printer.output)) in
+    left_pieces (g.S.Pieces.left c.args.pieces) c.from_residual-in_err-piece.result (search rules) (on_err _ _ part) (search rules)
 
-pub returns-in_err-flush-clause-err : goal.returns-in_err-flush-clause-err
-returns-in_err-flush-clause-err g c =
+pub returns-in_err-flush-clause-leaves : goal.returns-in_err-flush-clause-leaves
+returns-in_err-flush-clause-leaves g c =
     let left = text_of (g.S.Pieces.left c.loop-printer.pieces) in
-    on_err c.from_residual-in_err-flush.result _ (underway-broken _ c.loop-printer.printer left c.loop-printer.invariant.0 c.in_err-flush.ensures.err)
+    let part = underway-broken (g.W.Write.contents c.flush.new.output) c.loop-printer.printer left c.loop-printer.invariant.0 c.in_err-flush.ensures.writes.err in
+    left_pieces (g.S.Pieces.left c.args.pieces) c.from_residual-in_err-flush.result (search rules) (on_err _ _ part) (search rules)
 
-pub returns-clause-ok : goal.returns-clause-ok
-returns-clause-ok g c =
-    let none : g.S.Pieces.left c.loop-printer.pieces ≡ [] = search rules in (
+pub returns-clause-leaves : goal.returns-clause-leaves
+returns-clause-leaves g c =
+    let none : g.S.Pieces.left c.loop-printer.pieces ≡ [] = search rules in
+    left_pieces (g.S.Pieces.left c.args.pieces) (Ok c.loop-printer.outcome) (
       sym (c.loop-printer.invariant.1 ∙ ap (λ ps. if list_any (λ (p : Piece). p.counts) ps then Found else c.loop-printer.outcome) none),
-      underway-whole _ (items-printed (λ (p : Piece). p.text) c.loop-printer.printer none c.loop-printer.invariant.0) c.in_ok-flush.ensures.ok,
-    )
+      underway-whole _ (items-printed (λ (p : Piece). p.text) c.loop-printer.printer none c.loop-printer.invariant.0) c.in_ok-flush.ensures.writes.ok,
+    ) tt tt

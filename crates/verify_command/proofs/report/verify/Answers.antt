@@ -1,8 +1,8 @@
-use Rattle.std.proofs.Common.{rules, ◌≡◌, List, ℕ, Bor, Vec, Global, map, refl, subst}
+use Rattle.std.proofs.Common.{rules, ◌≡◌, List, ℕ, Bor, Vec, Global, map, subst}
 use Rattle.mailmap_findings.specs.Findings.{AreFindings}
-use Rattle.verify_command.specs.Report.{Says, finding_piece, outcome_of, text_of}
+use Rattle.verify_command.specs.Report.{Says, finding_piece}
 use Rattle.verify_command.specs.Settings.{choices_of, mailmap_names}
-use Rattle.verify_command.proofs.Leaving.{left_pieces}
+use Rattle.verify_command.proofs.Leaving.{leaves_weaker}
 use Rattle.verify_command.proofs.report.verify.Goals as goal
 
 pub returns-clause-leaves : goal.returns-clause-leaves
@@ -10,9 +10,11 @@ returns-clause-leaves g c =
     let items : Vec ℕ Global → List ℕ = λ file. file.items in
     let now : Bor (List ℕ) → List ℕ = λ b. b.now in
     let choices = choices_of c.args.request.now.settings in
-    let pieces = map (finding_piece choices (map items c.mailmap_names-names.result.now)) c.findings.result in
     let are : AreFindings (map now c.args.buffers.now) c.findings.result = search rules in
-    let names : map items c.mailmap_names-names.result.now ≡ mailmap_names choices (map items c.args.request.now.paths.items) = search rules in
-    left_pieces c.print_findings.result (outcome_of pieces) (text_of pieces)
-    (c.findings.result, are, subst (λ n. Says (outcome_of pieces) (text_of pieces) (map (finding_piece choices n) c.findings.result)) names (refl, refl))
-    c.print_findings.ensures.ok c.print_findings.ensures.err c.print_findings.ensures.only
+    let names : map items c.mailmap_names-names.result.now
+    ≡ mailmap_names choices (map items c.args.request.now.paths.items) = search rules in
+    leaves_weaker (λ o t says. (
+      c.findings.result,
+      are,
+      subst (λ n. Says o t (map (finding_piece choices n) c.findings.result)) names says,
+    )) c.print_findings.ensures.leaves

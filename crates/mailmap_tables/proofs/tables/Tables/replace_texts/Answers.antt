@@ -1,6 +1,5 @@
-use Rattle.std.proofs.Common.{◌≡◌, refl}
-use Rattle.mailmap_tables.specs.Pool.{fields_of, spelled}
-use Rattle.mailmap_tables.specs.RowTexts.{old_span}
+use Rattle.std.proofs.Common.{refl}
+use Rattle.mailmap_tables.specs.Pool.{fields_of}
 use Rattle.mailmap_tables.proofs.Edited.{edited, group_seen, lies_at, tables-set}
 use Rattle.mailmap_tables.proofs.tables.Tables.replace_texts.Goals as goal
 
@@ -18,10 +17,8 @@ invariant_of-self c =
 pub returns : goal.returns
 returns c =
     let es = c.self.inside.emails.items in
-    let e = c.index_mut.result.now in
     let read = c.index_mut.ensures.value in
-    let pool = c.self.inside.pool.items in
-    let same : spelled pool (old_span c.args.texts) ≡ spelled pool (old_span e.texts) =
-    rw (← c.self.view_is) at (c.requires.same _ (group_seen es c.self.invariant c.self.view_is c.requires.email read)) in
-    edited es c.self.invariant c.self.view_is c.requires.email read (λ p g. record g { unnamed = fields_of p c.args.texts })
-    (record e { texts = c.args.texts }) (rw same)
+    edited es c.self.invariant c.self.view_is c.requires.email read
+    (λ g. record g { unnamed = fields_of c.args.self.now.pool c.args.texts })
+    (record c.index_mut.result.now { texts = c.args.texts })
+    (rw (c.requires.same _ (group_seen es c.self.invariant c.self.view_is c.requires.email read)))

@@ -1,6 +1,9 @@
-use Rattle.std.proofs.Common.{rules}
+use Rattle.std.proofs.Common.{arith}
 use Rattle.mailmap_tables.proofs.RowsOfPool.{email_starts}
 use Rattle.mailmap_tables.proofs.view.View.fields.Goals as goal
 
-pub new_email-requires : goal.new_email-requires
-new_email-requires c = let within = email_starts _ c.args.texts c.requires in search rules
+pub overflow_add-email_start : goal.overflow_add-email_start
+overflow_add-email_start c = omega (
+  arith,
+  rw (← c.self.view_is, ← c.byte_count.ensures) at (email_starts _ c.args.texts c.requires),
+)
