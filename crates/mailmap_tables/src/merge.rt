@@ -176,12 +176,20 @@ fn built(alloc: Global, entries: &[Entry<'_>]) -> Result<Tables, AllocError>
 fn texts_len(entries: &[Entry<'_>]) -> usize {
     let mut len: usize = 0;
     for entry in entries {
-        let email = Some(entry.old_email());
-        for text in [entry.new_name(), entry.new_email(), entry.old_name(), email] {
-            len = len.saturating_add(text.unwrap_or(&[]).len());
-        }
+        len = len.saturating_add(entry_len(entry));
     }
     len
+}
+
+fn entry_len(entry: &Entry<'_>) -> usize {
+    let (name, email) = (
+        entry.new_name().unwrap_or(&[]),
+        entry.new_email().unwrap_or(&[]),
+    );
+    let new_len = name.len().saturating_add(email.len());
+    let old_name = entry.old_name().unwrap_or(&[]);
+    let old_len = old_name.len().saturating_add(entry.old_email().len());
+    new_len.saturating_add(old_len)
 }
 
 // Puts the entries for one email into tables, with this spelling of it.

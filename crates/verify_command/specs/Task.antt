@@ -63,15 +63,15 @@ IsPrunedFrom mailmaps outcome text = (mailmap : Text) × (mailmaps ≡ mailmap �
     × (first_read_otherwise mailmaps ≡ None) × (outcome ≡ Clean)
 
 -- the text is made from the mailmaps
-abbrev pub OfMailmaps : (List Text → Outcome → Text → Type 0) → (Text → AtPath) → Option Text → Wanted → Outcome → Text
+abbrev pub FromMailmaps : (List Text → Outcome → Text → Type 0) → (Text → AtPath) → Option Text → Wanted → Outcome → Text
     → Type 0
-OfMailmaps IsMade at input w outcome text =
+FromMailmaps IsMade at input w outcome text =
     (mailmaps : List Text) × AreMailmaps at input w mailmaps × IsMade mailmaps outcome text
 
 -- the text is made from the mailmaps and the contacts
 abbrev pub WithContacts : (List Text → Text → Outcome → Text → Type 0) → (Text → AtPath) → Option Text → Wanted → Outcome
     → Text → Type 0
-WithContacts IsMade at input w = OfMailmaps
+WithContacts IsMade at input w = FromMailmaps
     (λ mailmaps outcome text. (lines : Text) × AreContacts at w.contacts input lines × IsMade mailmaps lines outcome text)
     at input w
 

@@ -5,7 +5,7 @@ ghost use Rattle.command_line.specs.Files.{texts};
 ghost use Rattle.verify_command.specs.Report.{IsReportBeside};
 ghost use Rattle.verify_command.specs.Task.{AreMailmaps, AreSuggested, EndsPrinting, FailsFor, FailsToPrune, FailsToRead};
 ghost use Rattle.verify_command.specs.Task.{IsKnown, IsOfMailmap, IsPrunedFrom, IsReport, Leaves, LeavesExplained};
-ghost use Rattle.verify_command.specs.Task.{OfMailmaps, ReadsInput, WithContacts, reads_contacts, reads_mailmap};
+ghost use Rattle.verify_command.specs.Task.{FromMailmaps, ReadsInput, WithContacts, reads_contacts, reads_mailmap};
 ghost use Rattle.verify_command.specs.Task.{version_line, wanted_of};
 
 pub use crate::asked::{Format, Mode, ParseError, Request, Setting, Settings, USAGE};
@@ -41,9 +41,9 @@ pub fn perform<F: FileSystem, R: Read, W: Write>(
         W.contents output.old output.new result }
     ensures version { request.now.mode ≡ Mode.Version → Leaves false (IsKnown version_line)
         W.contents output.old output.new result }
-    ensures report { request.now.mode ≡ Mode.Verify → Leaves true (OfMailmaps (IsReport (wanted_of request.now))
+    ensures report { request.now.mode ≡ Mode.Verify → Leaves true (FromMailmaps (IsReport (wanted_of request.now))
         (F.at system.now) (R.remaining input.old) (wanted_of request.now)) W.contents output.old output.new result }
-    ensures pruned { request.now.mode ≡ Mode.Prune → Leaves false (OfMailmaps IsPrunedFrom
+    ensures pruned { request.now.mode ≡ Mode.Prune → Leaves false (FromMailmaps IsPrunedFrom
         (F.at system.now) (R.remaining input.old) (wanted_of request.now)) W.contents output.old output.new result }
     ensures with_contacts { request.now.mode ≡ Mode.Contacts → Leaves true
         (WithContacts (IsReportBeside (wanted_of request.now)) (F.at system.now) (R.remaining input.old)
