@@ -33,7 +33,7 @@ DECLARED = re.compile(
 # what a line of a file of definitions declares: a definition, a record, a field or a constructor
 DEFINED = re.compile(r"^(?: *pub (?:record |data )?|(?:abbrev|unfoldable) pub |  )(\w+)(?= [:({])", re.MULTILINE)
 # names of the language, the toolchain and the standard library
-KNOWN = set("Ok Err None Some Result Less Model Debug collect ensures requires rt make".split())
+KNOWN = set("Ok Err None Some Result Less Model Debug collect ensures requires slice_index_or rt make".split())
 
 
 class Sources:

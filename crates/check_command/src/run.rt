@@ -67,7 +67,7 @@ struct ContactLines {
 impl LineAnswers for ContactLines {
     ghost answers = { λ s. answers s.stream.mappings };
 
-    ghost kept = { λ s. s.stream.kept };
+    ghost partial = { λ s. s.stream.partial };
 
     fn push(&mut self, part: &[u8], text: &mut Vec<u8>) -> Result<usize, AllocError> {
         self.stream.push(part, text)

@@ -13,10 +13,10 @@ use Rattle.command_line.proofs.Printed.{Appends-both, Appends-longer}
 use Rattle.command_line.proofs.Reading.{all_given}
 
 -- `read` was read, and answered as far as lines ended
-pub record HasReadParts (answers : Text → Text) (kept : Text) (old now before after : Option Text) : Type 0 where
+pub record HasReadParts (answers : Text → Text) (partial : Text) (old now before after : Option Text) : Type 0 where
   pub read : Text
   pub consumed : Consumes old now read
-  pub answered : HasAnswered answers [] read kept (Appends before after)
+  pub answered : HasAnswered answers [] read partial (Appends before after)
 
 output_failed : {T : Type 0} (answers : Text → Text) (old later before after : Option Text)
     → PrintsFront (AnswersAll answers old) before after
@@ -29,14 +29,14 @@ module _ (answers : Text → Text) (in_order : AreInOrder answers) where
       → AnswersFront answers (bytes ++ more) made (rest ++ more)
   longer {made = made} {rest} more a = rw (append-nil made) at (front_more answers in_order more a (front_none answers in_order (rest ++ more)))
 
-  both : {kept xs mid : Text} {P : Text → Type 0} (h : HasAnswered answers kept xs mid P) (ys made rest : Text)
-      → AnswersFront answers (mid ++ ys) made rest → AnswersFront answers (kept ++ (xs ++ ys)) (h.made ++ made) rest
-  both {kept} {xs} h ys made rest f = rw (append_assoc kept xs ys) at (front_more answers in_order ys h.front f)
+  both : {partial xs mid : Text} {P : Text → Type 0} (h : HasAnswered answers partial xs mid P) (ys made rest : Text)
+      → AnswersFront answers (mid ++ ys) made rest → AnswersFront answers (partial ++ (xs ++ ys)) (h.made ++ made) rest
+  both {partial} {xs} h ys made rest f = rw (append_assoc partial xs ys) at (front_more answers in_order ys h.front f)
 
   -- more bytes are answered in part after those that are answered and written
-  pub stopped : {kept xs mid : Text} (ys : Text) (before between after : Option Text) (e : Failure)
-      → HasAnswered answers kept xs mid (Appends before between) → StopsIn answers (mid ++ ys) between after e
-      → StopsIn answers (kept ++ (xs ++ ys)) before after e
+  pub stopped : {partial xs mid : Text} (ys : Text) (before between after : Option Text) (e : Failure)
+      → HasAnswered answers partial xs mid (Appends before between) → StopsIn answers (mid ++ ys) between after e
+      → StopsIn answers (partial ++ (xs ++ ys)) before after e
   stopped ys before between after Memory h (made, (rest, f), written) =
       (h.made ++ made, (rest, both h ys made rest f), Appends-trans before between after h.made made h.is_made written)
   stopped ys before between after Output h (made, (rest, f), (n, written)) =
@@ -44,9 +44,9 @@ module _ (answers : Text → Text) (in_order : AreInOrder answers) where
   stopped ys before between after _ h stops = absurd stops
 
   -- no more bytes are answered
-  pub stopped_before : {kept xs mid : Text} (ys : Text) (before after : Option Text)
-      → HasAnswered answers kept xs mid (Appends before after)
-      → StopsIn answers (kept ++ (xs ++ ys)) before after Memory
+  pub stopped_before : {partial xs mid : Text} (ys : Text) (before after : Option Text)
+      → HasAnswered answers partial xs mid (Appends before after)
+      → StopsIn answers (partial ++ (xs ++ ys)) before after Memory
   stopped_before {mid = mid} ys before after h = stopped ys before after after Memory h ([], (mid ++ ys, front_none answers in_order (mid ++ ys)), Appends-nil after)
 
   -- a write of the answers to the first of some bytes fails
@@ -67,17 +67,17 @@ module _ (answers : Text → Text) (in_order : AreInOrder answers) where
   all_answered (Some x) (Some y) bytes made rest consumed a =
       let b = longer y a in (answers (rest ++ y), (bytes ++ y, sym consumed, cc (in_order b.whole (rest ++ y) b.ends)))
 
-  module _ {old now : Option Text} {kept : Text} {before between : Option Text} (h : HasReadParts answers kept old now before between) where
+  module _ {old now : Option Text} {partial : Text} {before between : Option Text} (h : HasReadParts answers partial old now before between) where
     module _ (later after : Option Text) (part : Text) (more_read : Consumes now later part) where
       consumed : Consumes old later (h.read ++ part)
       consumed = Consumes-trans old now later h.read part h.consumed more_read
 
-      pub one_more : {left : Text} → HasAnswered answers kept part left (Appends between after)
+      pub one_more : {left : Text} → HasAnswered answers partial part left (Appends between after)
           → HasReadParts answers left old later before after
       one_more k = record { read = h.read ++ part; consumed = consumed; answered = more_answered answers in_order h.answered (λ made w. Appends-trans before between after h.answered.made made h.answered.is_made w) k }
 
       -- answering a part fails
-      pub part_failed : {T : Type 0} (e : Failure) → StopsIn answers (kept ++ part) between after e
+      pub part_failed : {T : Type 0} (e : Failure) → StopsIn answers (partial ++ part) between after e
           → LeavesLines {T = T} answers old later before after (Err e)
       part_failed Memory stops =
           let all = stopped part before between after Memory h.answered stops in
@@ -89,29 +89,29 @@ module _ (answers : Text → Text) (in_order : AreInOrder answers) where
       part_failed _ stops = absurd stops
 
     all_lines : (later : Option Text) → Consumes now later [] → IsAtEnd later
-        → AnswersAll answers old (h.answered.made ++ answers kept)
+        → AnswersAll answers old (h.answered.made ++ answers partial)
     all_lines later none end = (
       h.read,
       all_given old later h.read (subst (Consumes old later) (append-nil h.read) (Consumes-trans old now later h.read [] h.consumed none)) end,
-      cc (in_order h.answered.front.whole kept h.answered.front.ends),
+      cc (in_order h.answered.front.whole partial h.answered.front.ends),
     )
 
     -- a read finds the end of the input, and the answer to a last line without a line feed is written
     pub ended : {T : Type 0} (later after : Option Text) (r : Result T Failure) → Consumes now later [] → IsAtEnd later
-        → IsOkUnless r Output → OnOk r (Appends between after (answers kept))
-        → OnErr r ((n : ℕ) × Appends between after (take n (answers kept))) → LeavesLines answers old later before after r
+        → IsOkUnless r Output → OnOk r (Appends between after (answers partial))
+        → OnErr r ((n : ℕ) × Appends between after (take n (answers partial))) → LeavesLines answers old later before after r
     ended later after (Ok x) none end only ok err = record {
-      prints = (_, all_lines later none end, Appends-trans before between after h.answered.made (answers kept) h.answered.is_made ok);
+      prints = (_, all_lines later none end, Appends-trans before between after h.answered.made (answers partial) h.answered.is_made ok);
       reads_all = end;
       breaks_off = λ is. cc;
       input_fails = tt;
       memory_fails = λ is. cc;
     }
     ended later after (Err e) none end only ok (n, broken) =
-        rw only (output_failed answers old later before after (_, all_lines later none end, Appends-both before between after h.answered.made (answers kept) n h.answered.is_made broken))
+        rw only (output_failed answers old later before after (_, all_lines later none end, Appends-both before between after h.answered.made (answers partial) n h.answered.is_made broken))
 
   -- before the first read
-  pub begun : {kept : Text} (old before : Option Text) → kept ≡ [] → HasReadParts answers kept old old before before
+  pub begun : {partial : Text} (old before : Option Text) → partial ≡ [] → HasReadParts answers partial old old before before
   begun old before none = record { read = []; consumed = Consumes-nil old; answered = rw none (nothing_answered answers in_order tt (Appends-nil before)) }
 
   -- memory runs out then

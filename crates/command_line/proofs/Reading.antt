@@ -18,22 +18,22 @@ all_given (Some x) (Some y) bytes consumed end = sym (consumed ∙ ap (λ l. byt
 
 -- ---- parts whose contacts are counted
 
--- a part without a line feed is kept
-pub kept_whole : {read kept : List ℕ} {counter : Counter} (part : List ℕ) → HasCountedRead read kept counter → HasCountedRead (read ++ part) (kept ++ part) counter
-kept_whole {kept = kept} part h = record { whole = h.whole; ends = h.ends; is = ap (λ l. l ++ part) h.is ∙ append_assoc h.whole kept part; counted = h.counted }
+-- a part without a line feed doesn't end the partial line
+pub unended_part : {read partial : List ℕ} {counter : Counter} (part : List ℕ) → HasCountedRead read partial counter → HasCountedRead (read ++ part) (partial ++ part) counter
+unended_part {partial = partial} part h = record { whole = h.whole; ends = h.ends; is = ap (λ l. l ++ part) h.is ∙ append_assoc h.whole partial part; counted = h.counted }
 
 -- the lines up to the last line feed of a part are counted
-pub counted_up_to : {read kept : List ℕ} {old new : Counter} (part text rest : List ℕ) (feed : ℕ) → IsLastByte (is_byte 10) part (Some feed)
-    → text ≡ kept ++ take (feed + 1) part → rest ≡ take (length part - (feed + 1)) (drop (feed + 1) part)
-    → ((lines : List (List ℕ)) → HasCounted lines old → HasCounted (lines ++ lines_of text) new) → HasCountedRead read kept old → HasCountedRead (read ++ part) rest new
-counted_up_to {kept = kept} part text rest feed last text_is rest_is counts h =
+pub counted_up_to : {read partial : List ℕ} {old new : Counter} (part text rest : List ℕ) (feed : ℕ) → IsLastByte (is_byte 10) part (Some feed)
+    → text ≡ partial ++ take (feed + 1) part → rest ≡ take (length part - (feed + 1)) (drop (feed + 1) part)
+    → ((lines : List (List ℕ)) → HasCounted lines old → HasCounted (lines ++ lines_of text) new) → HasCountedRead read partial old → HasCountedRead (read ++ part) rest new
+counted_up_to {partial = partial} part text rest feed last text_is rest_is counts h =
     let within : feed < length part = last.0.high in
     let all : rest ≡ drop (feed + 1) part = rest_is ∙ take_rest part (feed + 1) in
     let line : take (feed + 1) part ≡ take feed part ++ 10 ∷ [] =
     ap (λ n. take n part) (add-one feed) ∙ take-suc part feed 0 within ∙ ap (λ b. take feed part ++ b ∷ []) (eqb-true _ _ last.1) in
     record {
       whole = h.whole ++ text;
-      ends = ends_after h.whole text h.ends (inr (kept ++ take feed part, text_is ∙ ap (λ l. kept ++ l) line ∙ sym (append_assoc kept (take feed part) (10 ∷ []))));
-      is = cc (append_assoc h.whole kept part, append_assoc h.whole text rest, append_assoc kept (take (feed + 1) part) (drop (feed + 1) part), take-append-drop (feed + 1) part);
+      ends = ends_after h.whole text h.ends (inr (partial ++ take feed part, text_is ∙ ap (λ l. partial ++ l) line ∙ sym (append_assoc partial (take feed part) (10 ∷ []))));
+      is = cc (append_assoc h.whole partial part, append_assoc h.whole text rest, append_assoc partial (take (feed + 1) part) (drop (feed + 1) part), take-append-drop (feed + 1) part);
       counted = rw (lines_of-append h.whole text h.ends) (counts (lines_of h.whole) h.counted);
     }

@@ -6,15 +6,15 @@ use Rattle.mailmap_grammar.specs.LineParts.{EndsLine}
 use Rattle.mailmap_grammar.specs.Lines.{HoldsNo}
 use Rattle.contact_counter.specs.Counts.{Counter, HasCounted}
 
--- whole lines were read, and after them the bytes of `held`, in which no line ends
-pub record HasRead (unread left : Option (List ℕ)) (lines held : List ℕ) : Type 0 where
-  pub consumed : Consumes unread left (lines ++ held)
+-- whole lines were read, and after them a partial line
+pub record HasRead (unread left : Option (List ℕ)) (lines partial : List ℕ) : Type 0 where
+  pub consumed : Consumes unread left (lines ++ partial)
   pub ends : EndsLine lines
-  pub no_feed : HoldsNo 10 held
+  pub no_feed : HoldsNo 10 partial
 
--- `read` is whole lines, whose contacts are counted, and after them the kept bytes
-pub record HasCountedRead (read kept : List ℕ) (counter : Counter) : Type 0 where
+-- `read` is whole lines, whose contacts are counted, and after them `rest`, which isn't counted yet
+pub record HasCountedRead (read rest : List ℕ) (counter : Counter) : Type 0 where
   pub whole : List ℕ
   pub ends : EndsLine whole
-  pub is : read ≡ whole ++ kept
+  pub is : read ≡ whole ++ rest
   pub counted : HasCounted (lines_of whole) counter

@@ -27,10 +27,10 @@ failure_text paths Memory = codes "out of memory"
 failure_text paths Output = codes "cannot write output"
 
 -- a program's message
-abbrev pub said_by : List ℕ → List ℕ → List ℕ
-said_by program text = program ++ codes ": " ++ text ++ 10 ∷ []
+abbrev pub program_message : List ℕ → List ℕ → List ℕ
+program_message program text = program ++ codes ": " ++ text ++ 10 ∷ []
 
 -- the messages, or the other text if there was no memory to make them
-abbrev pub said : {E : Type 0} → Result (Vec ℕ) E → List ℕ → List ℕ
-said (Ok lines) without = lines.items
-said (Err e) without = without
+abbrev pub messages_or : {E : Type 0} → Result (Vec ℕ) E → List ℕ → List ℕ
+messages_or (Ok lines) without = lines.items
+messages_or (Err e) without = without

@@ -20,23 +20,23 @@ pub trait LineAnswers {
     ghost answers: { Self → List ℕ → List ℕ };
 
     // the start of a line that hasn't ended yet
-    ghost kept: { Self → List ℕ };
+    ghost partial: { Self → List ℕ };
 
     /// Takes bytes from the start of `part`, appends the answers to all lines that end in these bytes to `text`, and
     /// returns the number of bytes. If it fails, it took nothing, and `text` stays as it was.
     fn push(&mut self, part: &[u8], text: &mut Vec<u8>) -> Result<usize, AllocError>
-        requires { HoldsNo 10 (kept self.old) }
+        requires { HoldsNo 10 (partial self.old) }
         ensures takes { IfOk result (λ taken. (taken ≤ length part.now) × (0 < length part.now → 0 < taken)) }
-        ensures answers { IfOk result (λ taken. HasAnswered (answers self.old) (kept self.old) (take taken part.now)
-            (kept self.new) (λ made. text.new.items ≡ text.old.items ++ made)) }
-        ensures err { OnErr result ((kept self.new ≡ kept self.old) × (text.new.items ≡ text.old.items)) }
+        ensures answers { IfOk result (λ taken. HasAnswered (answers self.old) (partial self.old) (take taken part.now)
+            (partial self.new) (λ made. text.new.items ≡ text.old.items ++ made)) }
+        ensures err { OnErr result ((partial self.new ≡ partial self.old) × (text.new.items ≡ text.old.items)) }
         ensures same { answers self.new ≡ answers self.old };
 
-    /// Appends the answer to a last line without a line feed, if there is one. This ends the input: what was kept need
-    /// not be forgotten, so nothing is pushed after it.
+    /// Appends the answer to a last line without a line feed, if there is one. This ends the input: the partial line
+    /// need not be forgotten, so nothing is pushed after it.
     fn finish(&mut self, text: &mut Vec<u8>) -> Result<(), AllocError>
-        requires { HoldsNo 10 (kept self.old) }
-        ensures { OnOk result (text.new.items ≡ text.old.items ++ answers self.old (kept self.old)) };
+        requires { HoldsNo 10 (partial self.old) }
+        ensures { OnOk result (text.new.items ≡ text.old.items ++ answers self.old (partial self.old)) };
 
     // the answers to whole lines come before those to the lines after them
     ghost in_order: { (s : Self) → AreInOrder (answers s) };
@@ -52,7 +52,7 @@ pub fn answer_lines<A: LineAnswers, R: Read, W: Write>(
     input: &mut R,
     output: &mut W,
 ) -> Result<(), Failure>
-    requires { A.kept answerer.old ≡ [] }
+    requires { A.partial answerer.old ≡ [] }
     ensures leaves { LeavesLines (A.answers answerer.old) (R.remaining input.old) (R.remaining input.new)
         (W.contents output.old) (W.contents output.new) result }
     ensures only { IfErr result (λ e. IsOfInput e ⊎ (e ≡ Failure.Memory) ⊎ (e ≡ Failure.Output)) }
@@ -84,10 +84,10 @@ fn answer_part<A: LineAnswers, W: Write>(
     text: &mut Vec<u8>,
     output: &mut W,
 ) -> Result<(), Failure>
-    requires { HoldsNo 10 (A.kept answerer.old) }
-    ensures ok { OnOk result (HasAnswered (A.answers answerer.old) (A.kept answerer.old) part.now (A.kept answerer.new)
-        (Appends (W.contents output.old) (W.contents output.new))) }
-    ensures err { IfErr result (StopsIn (A.answers answerer.old) (A.kept answerer.old ++ part.now)
+    requires { HoldsNo 10 (A.partial answerer.old) }
+    ensures ok { OnOk result (HasAnswered (A.answers answerer.old) (A.partial answerer.old) part.now
+        (A.partial answerer.new) (Appends (W.contents output.old) (W.contents output.new))) }
+    ensures err { IfErr result (StopsIn (A.answers answerer.old) (A.partial answerer.old ++ part.now)
         (W.contents output.old) (W.contents output.new)) }
     ensures same { A.answers answerer.new ≡ A.answers answerer.old }
 {
@@ -108,10 +108,10 @@ fn push_lines<A: LineAnswers>(
     part: &[u8],
     text: &mut Vec<u8>,
 ) -> Result<usize, AllocError>
-    requires { HoldsNo 10 (A.kept answerer.old) }
+    requires { HoldsNo 10 (A.partial answerer.old) }
     ensures takes { IfOk result (λ taken. (taken ≤ length part.now) × (0 < length part.now → 0 < taken)) }
-    ensures answers { IfOk result (λ taken. HasAnswered (A.answers answerer.old) (A.kept answerer.old)
-        (take taken part.now) (A.kept answerer.new) (λ made. text.new.items ≡ text.old.items ++ made)) }
+    ensures answers { IfOk result (λ taken. HasAnswered (A.answers answerer.old) (A.partial answerer.old)
+        (take taken part.now) (A.partial answerer.new) (λ made. text.new.items ≡ text.old.items ++ made)) }
     ensures same { A.answers answerer.new ≡ A.answers answerer.old }
 {
     let mut taken = answerer.push(part, text)?;

@@ -24,7 +24,7 @@ pub fn count_contacts<R: Read>(alloc: Global, input: &mut R) -> Result<Contacts,
     ensures only { IfErr result (λ e. IsOfInput e ⊎ (e ≡ Failure.Memory)) }
 {
     let mut contacts = ContactCounter::new(alloc)?;
-    let mut kept = Vec::new(alloc);
+    let mut partial = Vec::new(alloc);
     let mut part = [0; PART];
     for _ in 0..u64::MAX {
         let count = match read_part(input, &mut part) {
@@ -32,10 +32,10 @@ pub fn count_contacts<R: Read>(alloc: Global, input: &mut R) -> Result<Contacts,
             Err(cause) => return Err(Failure::Input { cause }),
         };
         if count == 0 {
-            add_lines(&mut contacts, kept.as_slice())?;
+            add_lines(&mut contacts, partial.as_slice())?;
             return Ok(contacts.into_contacts()?);
         }
-        add_part(&mut contacts, &mut kept, &part[..count])?;
+        add_part(&mut contacts, &mut partial, &part[..count])?;
     }
     // Not reached: no input has so many reads.
     Err(Failure::Input {
@@ -43,19 +43,23 @@ pub fn count_contacts<R: Read>(alloc: Global, input: &mut R) -> Result<Contacts,
     })
 }
 
-// Counts the contacts on the lines that end in a part. `kept` carries the start of a line from one part to the next.
-fn add_part(counter: &mut ContactCounter, kept: &mut Vec<u8>, part: &[u8]) -> Result<(), AllocError>
-    ensures { OnOk result ((read : List ℕ) → HasCountedRead read kept.old.items counter.old
-        → HasCountedRead (read ++ part.now) kept.new.items counter.new) }
+// Counts the contacts on the lines that end in a part. `partial` is the start of a line that hasn't ended yet.
+fn add_part(
+    counter: &mut ContactCounter,
+    partial: &mut Vec<u8>,
+    part: &[u8],
+) -> Result<(), AllocError>
+    ensures { OnOk result ((read : List ℕ) → HasCountedRead read partial.old.items counter.old
+        → HasCountedRead (read ++ part.now) partial.new.items counter.new) }
 {
     let Some(feed) = part.rfind_byte(b'\n') else {
-        kept.extend_from_slice(part)?;
+        partial.extend_from_slice(part)?;
         return Ok(());
     };
-    kept.extend_from_slice(&part[..feed + 1])?;
-    add_lines(counter, kept.as_slice())?;
-    kept.clear();
-    kept.extend_from_slice(&part[feed + 1..])?;
+    partial.extend_from_slice(&part[..feed + 1])?;
+    add_lines(counter, partial.as_slice())?;
+    partial.clear();
+    partial.extend_from_slice(&part[feed + 1..])?;
     Ok(())
 }
 

@@ -1,7 +1,7 @@
 //! Error messages of the programs.
 ghost use Rattle.std.specs.Prelude.{◌≡◌, ◌-◌, ◌++◌, [], IfOk, IsOkUnless, OnOk, codes, slice_index_or};
 ghost use Rattle.command_line.specs.Files.{texts};
-ghost use Rattle.command_line.specs.Messages.{cause_text, failure_text, said, said_by};
+ghost use Rattle.command_line.specs.Messages.{cause_text, failure_text, messages_or, program_message};
 ghost use Rattle.command_line.specs.Printing.{WritesText};
 ghost use Rattle.command_line.specs.Shown.{shown};
 
@@ -19,7 +19,7 @@ pub fn failure_line(
     failure: Failure,
 ) -> Result<Vec<u8>, AllocError>
     ensures { IfOk result (λ line. line.items
-        ≡ said_by program.now (failure_text (texts paths.now) failure)) }
+        ≡ program_message program.now (failure_text (texts paths.now) failure)) }
 {
     let mut line = begun(alloc, program)?;
     push_failure(&mut line, paths, failure)?;
@@ -37,7 +37,7 @@ pub fn misuse_lines(
     usage: &[u8],
 ) -> Result<Vec<u8>, AllocError>
     ensures { IfOk result (λ lines. lines.items
-        ≡ said_by program.now (what.now ++ shown argument.now) ++ usage.now) }
+        ≡ program_message program.now (what.now ++ shown argument.now) ++ usage.now) }
 {
     let mut lines = begun(alloc, program)?;
     lines.extend_from_slice(what)?;
@@ -117,7 +117,7 @@ pub fn say<W: Write>(
     lines: Result<Vec<u8>, AllocError>,
     without: &[u8],
 ) -> Result<(), Failure>
-    ensures writes { WritesText (said lines without.now) W.contents output.old output.new result }
+    ensures writes { WritesText (messages_or lines without.now) W.contents output.old output.new result }
     ensures only { IsOkUnless result Failure.Output }
 {
     match lines {

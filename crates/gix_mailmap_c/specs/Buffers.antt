@@ -20,7 +20,7 @@ pub record IsPut {X : Type 0} (text before after : List X) (needed status : ℕ)
 pub record IsOutOfMemory {X : Type 0} (before after : List X) (needed status : ℕ) : Type 0 where
   pub says : status ≡ 2
   pub none : needed ≡ 0
-  pub kept : after ≡ before
+  pub unchanged : after ≡ before
 
 -- a text with the property P is written if it fits; or memory ran out
 abbrev pub IsOutput : {X : Type 0} → (List X → Type 0) → List X → List X → ℕ → ℕ → Type 0

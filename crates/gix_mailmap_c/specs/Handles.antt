@@ -48,8 +48,8 @@ Opens holding P None new status = ((status ≡ 0) × Holds holding P new) ⊎ Le
 -- status 0: a text's entries are merged after those of the mailmap; 2: out of memory, and the text has an accepted
 -- entry
 abbrev pub Adds : List Mapping → List Mapping → Option Content → ℕ → Type 0
-Adds said n new status = ((status ≡ 0) × Holds Mailmap (IsMerged n said) new)
-    ⊎ ((accepted said ≢ []) × LeavesHandle 2 (Some (Mailmap n)) new status)
+Adds added n new status = ((status ≡ 0) × Holds Mailmap (IsMerged n added) new)
+    ⊎ ((accepted added ≢ []) × LeavesHandle 2 (Some (Mailmap n)) new status)
 
 -- an entry needs a new name or a new email; with an old name, it needs a new email
 abbrev pub if_entry : Option Text → Option Text → Option Text → Text → Option Mapping
@@ -92,6 +92,6 @@ abbrev pub Pushes : Text → Pending → Option Content → ℕ → ℕ → Type
 Pushes part p new taken status = ((status ≡ 0) × Holds Stream (HasTakenOf part taken p) new)
     ⊎ ((taken ≡ 0) × LeavesHandle 2 (Some (Stream p)) new status)
 
--- status 0: the kept bytes are answered as a line; 2: out of memory
+-- status 0: the partial line is answered; 2: out of memory
 abbrev pub Finishes : Pending → Option Content → ℕ → Type 0
 Finishes p new status = ((status ≡ 0) × (new ≡ Some (Stream (ended p)))) ⊎ LeavesHandle 2 (Some (Stream p)) new status

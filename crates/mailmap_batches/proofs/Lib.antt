@@ -1,4 +1,4 @@
 pub mod Numbered
 pub mod Stable
 pub mod Respelled
-pub mod SortedGroups
+pub mod SortedRuns

@@ -3,7 +3,7 @@ use Rattle.std.proofs.Common.{◌≡◌, ◌+◌, ◌<◌, ◌≤◌, ℕ, suc, 
 use Rattle.std.proofs.Common.{Ordering, refl, ap}
 use Rattle.std.specs.List.{AllByRecursion, enumerate_from}
 use Rattle.std.specs.Ordering.{is_lt}
-use Rattle.mailmap_batches.specs.Batches.{IsAscending}
+use Rattle.mailmap_batches.specs.Batches.{IsWeaklySortedBy}
 
 pub enumerate_from-push : {X : Type 0} (n k : ℕ) (xs : List X) (x : X) → k ≡ n + length xs
     → enumerate_from n (xs ++ x ∷ []) ≡ enumerate_from n xs ++ (k, x) ∷ []
@@ -26,7 +26,7 @@ module _ {X K : Type 0} (R : K → K → Ordering) (by : X → K) where
   all_from x (y ∷ xs) h = (h 0 (omega arith), all_from x xs (λ k lt. h (suc k) (omega arith)))
 
   pub ascending_from : (xs : List X) → ((i j : ℕ) (d : X) → i ≤ j → j < length xs
-      → is_lt (R (by (get_or xs j d)) (by (get_or xs i d))) ≡ false) → IsAscending R (map by xs)
+      → is_lt (R (by (get_or xs j d)) (by (get_or xs i d))) ≡ false) → IsWeaklySortedBy R (map by xs)
   ascending_from [] h = tt
   ascending_from (x ∷ xs) h = (
     all_from x xs (λ k lt. h 0 (suc k) x (omega arith) (omega arith)),

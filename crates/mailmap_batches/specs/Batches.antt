@@ -19,36 +19,32 @@ key_at p = key (mapping_at p)
 abbrev pub indexed_mapping : IndexedEntry → ℕ × Mapping
 indexed_mapping p = (p.index, mapping_at p)
 
-abbrev pub email_text : Mapping → Text
-email_text m = folded m.old_email
+abbrev pub folded_email_of : Mapping → Text
+folded_email_of m = folded m.old_email
 
-abbrev pub email_at : IndexedEntry → Text
-email_at p = email_text (mapping_at p)
+abbrev pub folded_email_at : IndexedEntry → Text
+folded_email_at p = folded_email_of (mapping_at p)
 
 -- the first sixteen bytes of the folded old email as a number
 abbrev pub email_prefix : IndexedEntry → ℕ
-email_prefix p = key_prefix 16 (email_at p)
+email_prefix p = key_prefix 16 (folded_email_at p)
 
 -- the same of the old name, 0 if there is none
 abbrev pub name_prefix : IndexedEntry → ℕ
 name_prefix p = key_prefix 16 (unwrap_or (key_at p).1 [])
 
 -- no key is below one that comes before it
-abbrev pub IsAscending : {K : Type 0} → (K → K → Ordering) → List K → Type 0
-IsAscending cmp [] = Unit {0}
-IsAscending cmp (x ∷ xs) = AllByRecursion (λ y. is_lt (cmp y x) ≡ false) xs × IsAscending cmp xs
+abbrev pub IsWeaklySortedBy : {K : Type 0} → (K → K → Ordering) → List K → Type 0
+IsWeaklySortedBy cmp [] = Unit {0}
+IsWeaklySortedBy cmp (x ∷ xs) = AllByRecursion (λ y. is_lt (cmp y x) ≡ false) xs × IsWeaklySortedBy cmp xs
 
--- a permutation of the entries in which those with equal keys keep their order
-pub record KeepsKeys (xs : List Mapping) (ps : List (ℕ × Mapping)) : Type 0 where
+-- the entries and their indexes in ascending order of the keys; accepted ones with equal keys keep their order
+pub record IsSorted (xs : List Mapping) (ps : List (ℕ × Mapping)) : Type 0 where
   pub moved : IsPermutation (enumerate_from 0 xs) ps
   pub keyed : (k : Key) → of_key xs k ≡ of_key (map (λ p. p.1) ps) k
+  pub ascending : IsWeaklySortedBy key_cmp (map (λ p. key p.1) ps)
 
--- such a permutation in ascending order of the keys
-pub record IsSorted (xs : List Mapping) (ps : List (ℕ × Mapping)) : Type 0 where
-  pub keeps : KeepsKeys xs ps
-  pub ascending : IsAscending key_cmp (map (λ p. key p.1) ps)
-
--- the same entries; those with equal keys keep their order
+-- the same entries; accepted ones with equal keys keep their order
 pub record KeepsOrder (old new : List IndexedEntry) : Type 0 where
   pub moved : IsPermutation old new
   pub keyed : (k : Key) → of_key (map mapping_at old) k ≡ of_key (map mapping_at new) k
@@ -56,4 +52,4 @@ pub record KeepsOrder (old new : List IndexedEntry) : Type 0 where
 -- the same in ascending order of the keys
 pub record IsSortedFrom (old new : List IndexedEntry) : Type 0 where
   pub kept : KeepsOrder old new
-  pub ascending : IsAscending key_cmp (map key_at new)
+  pub ascending : IsWeaklySortedBy key_cmp (map key_at new)

@@ -1,16 +1,16 @@
 //! A stable sort of entries by key.
 //!
 //! First the entries are sorted by the prefixes of their emails, unless these ascend already, as in a mailmap that is
-//! sorted by email: the first sixteen bytes as a number, as `key_prefix` makes it. Emails whose prefixes differ are in
-//! their order, so only entries with the same prefix are then compared by their texts.
+//! sorted by email. A prefix is the first sixteen bytes of a text as a number, as `key_prefix` makes it. Emails whose
+//! prefixes differ are in the order of these, so only a run of entries with the same prefix is then compared by texts.
 ghost use Rattle.std.specs.Prelude.{◌≡◌, ◌<◌, ◌≤◌, ◌-◌, IfOk, OnOk, [], drop, length, map, slice_index_or, take};
-ghost use Rattle.std.specs.Option.{option_cmp};
+ghost use Rattle.std.specs.Option.{option_cmp, option_copied, option_map};
 ghost use Rattle.std.specs.List.{All, enumerate_from};
 ghost use Rattle.std.specs.List.Sorted.{IsNonDecreasingBy};
 ghost use Rattle.mailmap_entries.specs.Folding.{folded, text_cmp};
 ghost use Rattle.mailmap_entries.specs.Prefixes.{AreBytes};
 ghost use Rattle.mailmap_entries.specs.Semantics.{key_cmp};
-ghost use Rattle.mailmap_batches.specs.Batches.{IsSorted, IsSortedFrom, KeepsOrder, email_at, email_prefix, indexed_mapping};
+ghost use Rattle.mailmap_batches.specs.Batches.{IsSorted, IsSortedFrom, KeepsOrder, folded_email_at, email_prefix, indexed_mapping};
 ghost use Rattle.mailmap_batches.specs.Batches.{key_at, name_prefix};
 ghost use Rattle.mailmap_batches.specs.InOrder.{in_order};
 ghost use Rattle.mailmap_batches.specs.declared.indexed.IndexedEntry.{IndexedEntry as SpecEntry};
@@ -23,18 +23,18 @@ use mailmap_entries::fold::prefix::key_prefix;
 use std::alloc::{AllocError, Global};
 use std::cmp::Ordering;
 
-/// The entries in ascending order of their keys. Entries with equal keys keep their order.
+/// The entries in ascending order of their keys. Accepted entries with equal keys keep their order.
 pub fn sorted<'e, 'a, T: HasEntry<'a>>(
     alloc: Global,
     entries: &'e [T],
 ) -> Result<Vec<IndexedEntry<'e, 'a>>, AllocError>
-    ensures { IfOk result (λ batch. IsSorted (map T.mapped entries.now) (map indexed_mapping batch.items)) }
+    ensures { IfOk result (λ batch. IsSorted (map T.mapping entries.now) (map indexed_mapping batch.items)) }
 {
     let batch = indexed(alloc, entries)?;
     if batch.is_sorted_by_key(email_prefix) {
-        return sorted_groups(alloc, &InOrder::Given(&batch));
+        return sorted_runs(alloc, &InOrder::Given(&batch));
     }
-    sorted_groups(alloc, &InOrder::Sorted(&sorted_by_prefix(alloc, batch)?))
+    sorted_runs(alloc, &InOrder::Sorted(&sorted_by_prefix(alloc, batch)?))
 }
 
 // The entries with their indexes. The clause `bytes` is for the lemma that texts with unequal prefixes are in the order
@@ -44,8 +44,8 @@ fn indexed<'e, 'a, T: HasEntry<'a>>(
     entries: &'e [T],
 ) -> Result<Vec<IndexedEntry<'e, 'a>>, AllocError>
     ensures indexed { IfOk result
-        (λ batch. map indexed_mapping batch.items ≡ enumerate_from 0 (map T.mapped entries.now)) }
-    ensures bytes { IfOk result (λ batch. All (λ p. AreBytes (email_at p)) batch.items) }
+        (λ batch. map indexed_mapping batch.items ≡ enumerate_from 0 (map T.mapping entries.now)) }
+    ensures bytes { IfOk result (λ batch. All (λ p. AreBytes (folded_email_at p)) batch.items) }
 {
     let mut batch = Vec::with_capacity(alloc, entries.len())?;
     for (index, item) in entries.iter().enumerate() {
@@ -68,6 +68,7 @@ fn email_prefix(indexed: &IndexedEntry) -> u128
     key_prefix(indexed.entry.old_email())
 }
 
+// The entries in the order of their prefixes. The batch is freed before the sort, which allocates.
 fn sorted_by_prefix<'e, 'a>(
     alloc: Global,
     batch: Vec<IndexedEntry<'e, 'a>>,
@@ -84,7 +85,7 @@ fn sorted_by_prefix<'e, 'a>(
     Ok(prefixed)
 }
 
-// Entries in the order of their prefixes: as they were given, or sorted, which takes more memory.
+// Entries in the order of their prefixes: as they were given, or sorted by these, which takes more memory.
 #[derive(Clone, Copy)]
 enum InOrder<'s, 'e, 'a> {
     Given(&'s [IndexedEntry<'e, 'a>]),
@@ -130,39 +131,39 @@ fn at<T>(entries: &[T], index: usize) -> &T
     &entries[index]
 }
 
-// Sorts entries by key that are in the order of their prefixes already.
-fn sorted_groups<'e, 'a>(
+// Sorts entries by key that are in the order of their prefixes already, run by run.
+fn sorted_runs<'e, 'a>(
     alloc: Global,
     entries: &InOrder<'_, 'e, 'a>,
 ) -> Result<Vec<IndexedEntry<'e, 'a>>, AllocError>
-    requires bytes { All (λ p. AreBytes (email_at p)) (in_order entries.now) }
+    requires bytes { All (λ p. AreBytes (folded_email_at p)) (in_order entries.now) }
     requires ascending { IsNonDecreasingBy email_prefix (in_order entries.now) }
     ensures { IfOk result (λ batch. IsSortedFrom (in_order entries.now) batch.items) }
 {
     let mut batch = Vec::with_capacity(alloc, entries.len())?;
-    let mut group = Vec::new(alloc);
+    let mut run = Vec::new(alloc);
     let mut start = 0;
     while start < entries.len() {
-        group.clear();
-        let end = push_group(&mut group, entries, start)?;
-        sort_name_prefixes(&mut group)?;
-        sort_group(&mut group)?;
-        batch.extend_from_slice(&group)?;
+        run.clear();
+        let end = push_run(&mut run, entries, start)?;
+        sort_name_prefixes(&mut run)?;
+        sort_run(&mut run)?;
+        batch.extend_from_slice(&run)?;
         start = end;
     }
     Ok(batch)
 }
 
-// Pushes the entries that have the prefix of the entry at an index, and returns the index after them. As prefixes
+// Pushes the run of entries with the prefix of the entry at an index, and returns the index after them. As prefixes
 // ascend, none is smaller.
-fn push_group<'e, 'a>(
-    group: &mut Vec<IndexedEntry<'e, 'a>>,
+fn push_run<'e, 'a>(
+    run: &mut Vec<IndexedEntry<'e, 'a>>,
     entries: &InOrder<'_, 'e, 'a>,
     start: usize,
 ) -> Result<usize, AllocError>
     requires start { start < length (in_order entries.now) }
-    requires empty { group.old.items ≡ [] }
-    ensures group { IfOk result (λ end. group.new.items ≡ take (end - start) (drop start (in_order entries.now))) }
+    requires empty { run.old.items ≡ [] }
+    ensures run { IfOk result (λ end. run.new.items ≡ take (end - start) (drop start (in_order entries.now))) }
     ensures after { IfOk result (λ end. start < end) }
     ensures within { IfOk result (λ end. end ≤ length (in_order entries.now)) }
     ensures greater { IfOk result (λ end. (d : SpecEntry) → end < length (in_order entries.now)
@@ -170,26 +171,26 @@ fn push_group<'e, 'a>(
         < email_prefix (slice_index_or (in_order entries.now) end d)) }
 {
     let (len, prefix) = (entries.len(), entries.prefix(start));
-    group.push(entries.entry(start))?;
+    run.push(entries.entry(start))?;
     let mut end = start + 1;
     while end < len && entries.prefix(end) <= prefix {
-        group.push(entries.entry(end))?;
+        run.push(entries.entry(end))?;
         end += 1;
     }
     Ok(end)
 }
 
-// So few entries are sorted by insertion.
+// The standard library sorts so few entries by insertion alone.
 const FEW: usize = 20;
 
 // Sorts many entries by the prefixes of their old names, so that few texts are compared after it.
-fn sort_name_prefixes(group: &mut Vec<IndexedEntry>) -> Result<(), AllocError>
-    ensures { KeepsOrder group.old.items group.new.items }
+fn sort_name_prefixes(run: &mut Vec<IndexedEntry>) -> Result<(), AllocError>
+    ensures { KeepsOrder run.old.items run.new.items }
 {
-    if group.len() <= FEW {
+    if run.len() <= FEW {
         return Ok(());
     }
-    group.sort_by_cached_key(name_prefix)
+    run.sort_by_cached_key(name_prefix)
 }
 
 // The prefix of an old name, 0 if there is none.
@@ -201,17 +202,17 @@ fn name_prefix(indexed: &IndexedEntry) -> u128
 }
 
 // Sorts entries by key. If all have the same email, as most with the same prefix do, only their names are compared.
-fn sort_group(group: &mut Vec<IndexedEntry>) -> Result<(), AllocError>
-    requires { 0 < length group.old.items }
-    ensures { OnOk result (IsSortedFrom group.old.items group.new.items) }
+fn sort_run(run: &mut Vec<IndexedEntry>) -> Result<(), AllocError>
+    requires { 0 < length run.old.items }
+    ensures { OnOk result (IsSortedFrom run.old.items run.new.items) }
 {
-    if group.len() == 1 {
+    if run.len() == 1 {
         return Ok(());
     }
-    if email_group_len(group) == group.len() {
-        return group.sort_by(compare_old_names);
+    if email_group_len(run) == run.len() {
+        return run.sort_by(compare_old_names);
     }
-    group.sort_by(compare_keys)
+    run.sort_by(compare_keys)
 }
 
 // Compares keys: the old emails, then the old names.
@@ -224,11 +225,18 @@ fn compare_keys(a: &IndexedEntry, b: &IndexedEntry) -> Ordering
     }
 }
 
-// Compares old names. A missing one comes first.
 fn compare_old_names(a: &IndexedEntry, b: &IndexedEntry) -> Ordering
     ensures { result ≡ option_cmp text_cmp (key_at a.now).1 (key_at b.now).1 }
 {
-    match (a.entry.old_name(), b.entry.old_name()) {
+    compare_names(a.entry.old_name(), b.entry.old_name())
+}
+
+/// Compares names without the case of ASCII letters. A missing one comes first.
+pub fn compare_names(a: Option<&[u8]>, b: Option<&[u8]>) -> Ordering
+    ensures { result ≡ option_cmp text_cmp (option_map folded (option_copied a.entry))
+        (option_map folded (option_copied b.entry)) }
+{
+    match (a, b) {
         (None, None) => Ordering::Equal,
         (None, Some(_)) => Ordering::Less,
         (Some(_), None) => Ordering::Greater,

@@ -1,7 +1,7 @@
 //! Groups in a sorted batch: the entries for one email, which are neighbours.
 ghost use Rattle.std.specs.Prelude.{◌≢◌, ◌<◌, ◌≤◌, All, Contains, IsTrue, ◌↔◌, ◌≡◌, length, slice_index_or, take};
 ghost use Rattle.mailmap_entries.specs.Folding.{folded};
-ghost use Rattle.mailmap_batches.specs.Batches.{email_at};
+ghost use Rattle.mailmap_batches.specs.Batches.{folded_email_at};
 ghost use Rattle.mailmap_batches.specs.declared.indexed.IndexedEntry.{IndexedEntry as SpecEntry};
 
 use crate::indexed::IndexedEntry;
@@ -18,10 +18,10 @@ pub fn email_group_len(batch: &[IndexedEntry<'_, '_>]) -> usize
     requires { 0 < length batch.now }
     ensures some { 0 < result }
     ensures within { result ≤ length batch.now }
-    ensures same { (d : SpecEntry) → All (λ p. email_at p ≡ email_at (slice_index_or batch.now 0 d))
+    ensures same { (d : SpecEntry) → All (λ p. folded_email_at p ≡ folded_email_at (slice_index_or batch.now 0 d))
         (take result batch.now) }
     ensures other { (d : SpecEntry) → result < length batch.now
-        → email_at (slice_index_or batch.now result d) ≢ email_at (slice_index_or batch.now 0 d) }
+        → folded_email_at (slice_index_or batch.now result d) ≢ folded_email_at (slice_index_or batch.now 0 d) }
 {
     let email = batch[0].entry.old_email();
     for i in 1..batch.len() {

@@ -13,14 +13,14 @@ pub struct IndexedEntry<'e, 'a> {
 
 /// A type that has an entry: the entry itself, or an entry with more data.
 pub trait HasEntry<'a> {
-    ghost mapped: { Self → Mapping };
+    ghost mapping: { Self → Mapping };
 
     fn entry(&self) -> &Entry<'a>
-        ensures { mapping_of result.now ≡ mapped self.now };
+        ensures { mapping_of result.now ≡ mapping self.now };
 }
 
 impl<'a> HasEntry<'a> for Entry<'a> {
-    ghost mapped = { λ e. mapping_of e };
+    ghost mapping = { λ e. mapping_of e };
 
     #[inline(always)]
     fn entry(&self) -> &Entry<'a> {

@@ -1,7 +1,7 @@
 //! Entries with the prefix of their email.
 ghost use Rattle.std.specs.Prelude.{◌≡◌};
 ghost use Rattle.mailmap_entries.specs.Prefixes.{IsKeyPrefix};
-ghost use Rattle.mailmap_batches.specs.Batches.{email_prefix, email_text, mapping_at};
+ghost use Rattle.mailmap_batches.specs.Batches.{email_prefix, folded_email_at};
 ghost use Rattle.mailmap_batches.specs.declared.indexed.IndexedEntry.{IndexedEntry as SpecEntry};
 
 use crate::indexed::IndexedEntry;
@@ -20,7 +20,7 @@ impl<'e, 'a> Model for PrefixedEntry<'e, 'a> {
 
     ghost view = { λ f. f.indexed };
 
-    ghost invariant = { λ f. IsKeyPrefix f.prefix (email_text (mapping_at f.indexed)) };
+    ghost invariant = { λ f. IsKeyPrefix f.prefix (folded_email_at f.indexed) };
 }
 
 pub(crate) fn with_prefix<'e, 'a>(indexed: IndexedEntry<'e, 'a>) -> PrefixedEntry<'e, 'a>

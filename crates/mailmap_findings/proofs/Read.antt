@@ -45,20 +45,20 @@ same_reading says n w p is = grind (arith, reading_by-feed)
 
 -- ---- all readings
 
-abbrev pub said : (ℕ → Text → Option Reading) → List Line → List Reading
-said read ls = flat_map (λ l. option_to_list (read l.position.line l.text)) ls
+abbrev pub line_readings : (ℕ → Text → Option Reading) → List Line → List Reading
+line_readings read ls = flat_map (λ l. option_to_list (read l.position.line l.text)) ls
 
-said-located : (says : ℕ → Text → Reading) (buffer n : ℕ) (ws ps : List Text) → ArePiecesOf ws ps → said (reading_by says) (located_from buffer n ws) ≡ readings_from (reading_by says) n ps
+readings-located : (says : ℕ → Text → Reading) (buffer n : ℕ) (ws ps : List Text) → ArePiecesOf ws ps → line_readings (reading_by says) (located_from buffer n ws) ≡ readings_from (reading_by says) n ps
 unfolding located_from readings_from
-said-located says buffer n [] [] are = refl
-said-located says buffer n [] (p ∷ ps) are = absurd are
-said-located says buffer n (w ∷ ws) [] are = absurd are
-said-located says buffer n (w ∷ ws) (p ∷ ps) are =
-    grind (arith, same_reading, (said-located says buffer (n + 1) ws ps are.1))
+readings-located says buffer n [] [] are = refl
+readings-located says buffer n [] (p ∷ ps) are = absurd are
+readings-located says buffer n (w ∷ ws) [] are = absurd are
+readings-located says buffer n (w ∷ ws) (p ∷ ps) are =
+    grind (arith, same_reading, (readings-located says buffer (n + 1) ws ps are.1))
 
-pub said-buffer : (says : ℕ → Text → Reading) (s : Text) → said (reading_by says) (located_lines (s ∷ [])) ≡ readings_from (reading_by says) 1 (pieces s)
+pub readings-buffer : (says : ℕ → Text → Reading) (s : Text) → line_readings (reading_by says) (located_lines (s ∷ [])) ≡ readings_from (reading_by says) 1 (pieces s)
 unfolding lines_from
-said-buffer says s = grind (arith, append-nil, said-located, are_pieces)
+readings-buffer says s = grind (arith, append-nil, readings-located, are_pieces)
 
 -- ---- the entries
 

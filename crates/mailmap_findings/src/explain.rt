@@ -10,7 +10,7 @@ ghost use Rattle.std.specs.Prelude.{◌≡◌, IfOk, IfSome, None, map};
 ghost use Rattle.std.specs.Option.{option_map};
 ghost use Rattle.mailmap_entries.specs.Semantics.{answer_of};
 ghost use Rattle.mailmap_redundancy.specs.Origins.{origins};
-ghost use Rattle.mailmap_redundancy.specs.Numbers.{fields_of, origins_of, referred};
+ghost use Rattle.mailmap_redundancy.specs.Summaries.{fields_of, origins_of, referred};
 ghost use Rattle.mailmap_redundancy.specs.Redundancy.{AreEffective, entries};
 ghost use Rattle.mailmap_findings.specs.Explanations as spec;
 ghost use Rattle.mailmap_findings.specs.Explanations.{explained, explained_by, origin_positions, needed_positions, positions_of};
@@ -31,7 +31,7 @@ pub struct Explanations<'m, 'a> {
 }
 
 impl<'m, 'a> Model for Explanations<'m, 'a> {
-    ghost use Rattle.mailmap_redundancy.specs.Numbers.{EffectiveEntries};
+    ghost use Rattle.mailmap_redundancy.specs.Summaries.{EffectiveEntries};
     ghost use Rattle.mailmap_redundancy.specs.Redundancy.{AreEffective};
 
     ghost Value = { EffectiveEntries };

@@ -25,9 +25,9 @@ pub use equal::{
 /// readings and entries as the whole.
 pub fn law_whole_lines()
     ensures whole { (s : Text) → flat_map (λ t. t) (whole_lines s) ≡ s }
-    ensures said { (s : Text) → flat_map (λ l. option_to_list (reading l.position.line l.text)) (located_lines (s ∷ []))
-        ≡ readings s }
-    ensures said_strictly { (s : Text)
+    ensures readings { (s : Text)
+        → flat_map (λ l. option_to_list (reading l.position.line l.text)) (located_lines (s ∷ [])) ≡ readings s }
+    ensures strict_readings { (s : Text)
         → flat_map (λ l. option_to_list (strict_reading l.position.line l.text)) (located_lines (s ∷ []))
         ≡ strict_readings s }
     ensures entries { (buffers : List Text) → entries (located (located_lines buffers)) ≡ flat_map mappings_of buffers }

@@ -54,40 +54,40 @@ module _ (answers : Text → Text) (in_order : AreInOrder answers) where
   pub front_all : {bytes text rest : Text} → AnswersFront answers bytes text rest → text ++ answers rest ≡ answers bytes
   front_all {rest = rest} a = cc (in_order a.whole rest a.ends)
 
-  pub nothing_answered : {kept : Text} {P : Text → Type 0} → HoldsNo 10 kept → P [] → HasAnswered answers kept [] kept P
-  nothing_answered {kept} held none = record { made = []; front = rw (append-nil kept) (front_none kept); no_feed = held; is_made = none }
+  pub nothing_answered : {partial : Text} {P : Text → Type 0} → HoldsNo 10 partial → P [] → HasAnswered answers partial [] partial P
+  nothing_answered {partial} held none = record { made = []; front = rw (append-nil partial) (front_none partial); no_feed = held; is_made = none }
 
-  pub more_answered : {kept xs mid ys left : Text} {P Q R : Text → Type 0} (h : HasAnswered answers kept xs mid P)
+  pub more_answered : {partial xs mid ys left : Text} {P Q R : Text → Type 0} (h : HasAnswered answers partial xs mid P)
       → ((made : Text) → Q made → R (h.made ++ made))
-      → HasAnswered answers mid ys left Q → HasAnswered answers kept (xs ++ ys) left R
-  more_answered {kept} {xs} {ys = ys} h join k = record {
+      → HasAnswered answers mid ys left Q → HasAnswered answers partial (xs ++ ys) left R
+  more_answered {partial} {xs} {ys = ys} h join k = record {
     made = h.made ++ k.made;
-    front = rw (append_assoc kept xs ys) at (front_more ys h.front k.front);
+    front = rw (append_assoc partial xs ys) at (front_more ys h.front k.front);
     no_feed = k.no_feed;
     is_made = join k.made k.is_made;
   }
 
-  -- a part without a line feed is kept
-  pub kept_part : {kept part : Text} {P : Text → Type 0} → IsFirstByte (is_byte 10) part None → HoldsNo 10 kept → P []
-      → HasAnswered answers kept part (kept ++ part) P
-  kept_part {kept} {part} none held nothing = record {
+  -- a part without a line feed doesn't end the partial line
+  pub unended_part : {partial part : Text} {P : Text → Type 0} → IsFirstByte (is_byte 10) part None → HoldsNo 10 partial → P []
+      → HasAnswered answers partial part (partial ++ part) P
+  unended_part {partial} {part} none held nothing = record {
     made = [];
-    front = front_none (kept ++ part);
-    no_feed = all_append _ kept part held (none_held 10 part (λ k l is_feed. none k (omega arith) l (eq-eqb _ _ is_feed)));
+    front = front_none (partial ++ part);
+    no_feed = all_append _ partial part held (none_held 10 part (λ k l is_feed. none k (omega arith) l (eq-eqb _ _ is_feed)));
     is_made = nothing;
   }
 
--- the first line feed of a part ends the line that is kept
-pub ended_part : (answers : Text → Text) {kept : Text} (part : Text) (feed : ℕ) {P : Text → Type 0}
-    → IsFirstByte (is_byte 10) part (Some feed) → P (answers (kept ++ take (feed + 1) part))
-    → HasAnswered answers kept (take (feed + 1) part) [] P
-ended_part answers {kept} part feed first made =
-    let line = kept ++ take (feed + 1) part in
+-- the first line feed of a part ends the partial line
+pub ended_part : (answers : Text → Text) {partial : Text} (part : Text) (feed : ℕ) {P : Text → Type 0}
+    → IsFirstByte (is_byte 10) part (Some feed) → P (answers (partial ++ take (feed + 1) part))
+    → HasAnswered answers partial (take (feed + 1) part) [] P
+ended_part answers {partial} part feed first made =
+    let line = partial ++ take (feed + 1) part in
     record {
       made = answers line;
       front = record {
         whole = line;
-        ends = inr (kept ++ take feed part, ap (λ l. kept ++ l) (last_at part feed (feed + 1) 10 first.0.high refl (eqb-true _ _ first.1)) ∙ sym (append_assoc kept (take feed part) (10 ∷ [])));
+        ends = inr (partial ++ take feed part, ap (λ l. partial ++ l) (last_at part feed (feed + 1) 10 first.0.high refl (eqb-true _ _ first.1)) ∙ sym (append_assoc partial (take feed part) (10 ∷ [])));
         bytes_are = sym (append-nil line);
         text_is = refl;
       };

@@ -18,9 +18,10 @@ pub record AnswersFront (answers : Text → Text) (bytes text rest : Text) : Typ
   pub bytes_are : bytes ≡ whole ++ rest
   pub text_is : text ≡ answers whole
 
--- After the kept bytes, more have arrived. What was made answers all lines that ended in them, and the rest is left.
-pub record HasAnswered (answers : Text → Text) (kept bytes left : Text) (IsMade : Text → Type 0) : Type 0 where
+-- After a partial line, more bytes have arrived. What was made answers all lines that ended in them, and the rest is
+-- left.
+pub record HasAnswered (answers : Text → Text) (partial bytes left : Text) (IsMade : Text → Type 0) : Type 0 where
   pub made : Text
-  pub front : AnswersFront answers (kept ++ bytes) made left
+  pub front : AnswersFront answers (partial ++ bytes) made left
   pub no_feed : HoldsNo 10 left
   pub is_made : IsMade made

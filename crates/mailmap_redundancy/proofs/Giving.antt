@@ -59,7 +59,7 @@ spelled email name origin None _ nobody = grind (arith, nobody)
 spelled email name None (Some x) _ _ = refl
 spelled email name (Some y) (Some x) does _ = grind (arith, first_of_two)
 
--- which these are, is said by the entries that count
+-- the entries that count say which these are
 fields_count : (kept : List LocatedMapping) (name email : Text) → AllByRecursion (λ x. is_accepted x.entry ≡ true) kept
     → unwrap_or (last_fields (entries kept) (folded email, Some (folded name))) (given_fields (entries kept) (folded email)) ≡ fields_that_count (those_that_count kept name email)
 fields_count kept name email all = grind (arith, located_key, last-map, count)

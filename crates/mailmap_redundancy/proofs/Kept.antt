@@ -21,7 +21,7 @@ use Rattle.mailmap_entries.proofs.Parts.{filter_all, is_some-option_map, last-ap
 use Rattle.mailmap_entries.proofs.Unique.{normal_unique}
 use Rattle.mailmap_redundancy.specs.Origins.{entries_of_email, last_with}
 use Rattle.mailmap_redundancy.specs.Redundancy.{IsRedundant, IsPass, done, goes, stays, AreEffective, settled, again, IsSublist, LocatedMapping, entries, entries_of_key, last_position}
-use Rattle.mailmap_redundancy.specs.Numbers.{KeyOrigins, Said, key_origins, said_by}
+use Rattle.mailmap_redundancy.specs.Summaries.{KeySummary, Summary, key_summary, summary_by}
 use Rattle.mailmap_redundancy.proofs.Redundant.{LocatedMappings, Stays, good, keyed_good, mailed_good, none_of_key, own_email, own_key, redundant_or_not, stays_decides, there_by, unaccepted_redundant}
 use Rattle.mailmap_redundancy.proofs.Sublists.{sublist_itself, sublist_keep, sublist_skip, sublist_trans}
 use Rattle.std.proofs.lemmas.Map.Lookups.{exact_bytes}
@@ -209,9 +209,9 @@ some_pass kept (x ∷ xs) = elim (redundant_or_not kept x xs) [
 
 -- ---- an entry that is redundant in one place is redundant in another
 
--- what is said before and after an entry in one pass (b and a), and in the next (b' and a')
-record Carries (b a b' a' : Said) : Type 0 where
-  pre : KeyOrigins
+-- the summaries before and after an entry in one pass (b and a), and in the next (b' and a')
+record Carries (b a b' a' : Summary) : Type 0 where
+  pre : KeySummary
   last : b.of_key.last ≡ option_or b'.of_key.last pre.last
   name : b.of_key.name ≡ option_or b'.of_key.name pre.name
   email : b.of_key.email ≡ option_or b'.of_key.email pre.email
@@ -221,7 +221,7 @@ record Carries (b a b' a' : Said) : Type 0 where
   first : b.of_key.first ≡ None → (b'.of_key.first ≡ None) × (a'.of_key.first ≡ a.of_key.first)
   spelled : b.spelling ≡ None → (b'.spelling ≡ None) × (a'.spelling ≡ a.spelling)
 
-carried : (is_named : Bool) (x : LocatedMapping) (b a b' a' : Said) → Carries b a b' a' → Stays is_named b' x a'
+carried : (is_named : Bool) (x : LocatedMapping) (b a b' a' : Summary) → Carries b a b' a' → Stays is_named b' x a'
     → Stays is_named b x a
 carried false x b a b' a' c s = grind (arith, c, s)
 carried true x b a b' a' c s = grind (arith, c, s)
@@ -246,9 +246,9 @@ no_first (x ∷ l) none = absurd (cc)
 carries : (ps pre ps' ss ss' es es' fs fs' : LocatedMappings) → ps ≡ pre ++ ps'
     → ((q : LocatedMapping → Bool) → list_any q ss' ≡ true → list_any q ss ≡ true)
     → (ps ≡ [] → (ps' ≡ []) × (ss' ≡ ss)) → (es ≡ [] → (es' ≡ []) × (fs' ≡ fs))
-    → Carries (said_by ps es) (said_by ss fs) (said_by ps' es') (said_by ss' fs')
+    → Carries (summary_by ps es) (summary_by ss fs) (summary_by ps' es') (summary_by ss' fs')
 carries ps pre ps' ss ss' es es' fs fs' is fewer keyed mailed = record {
-  pre = key_origins pre;
+  pre = key_summary pre;
   last = ap last is ∙ last-append pre ps';
   name = ap (last_with (λ x. x.new_name)) is ∙ with-append (λ x. x.new_name) pre ps';
   email = ap (last_with (λ x. x.new_email)) is ∙ with-append (λ x. x.new_email) pre ps';

@@ -16,11 +16,11 @@ use Rattle.mailmap_entries.specs.Entries.{Mapping, mapping_of}
 use Rattle.mailmap_entries.specs.Folding.{Text, text_cmp}
 use Rattle.mailmap_entries.specs.Semantics.{Key, is_accepted, key, key_cmp}
 use Rattle.mailmap_entries.proofs.Keys.{keys_total, keys_exact}
-use Rattle.mailmap_redundancy.specs.Numbers.{IsNumber, AreAscending, IsPushed, IsNotBelowLast, email_key, last_key, IsNumbered, numbered_mapping, located_entry_of, located_mappings}
+use Rattle.mailmap_redundancy.specs.Summaries.{IsNumber, AreAscending, IsPushed, IsNotBelowLast, email_key, last_key, IsNumbered, numbered_mapping, located_mapping_of, located_mappings}
 use Rattle.std.proofs.lemmas.List.{drop_more, length-map, get_or-map, get_or-set_other}
 use Rattle.std.proofs.lemmas.List.FromFn.{length-enumerate_from, get_or-enumerate_from}
 use Rattle.std.proofs.Math.Seq.{map-set_same}
-use Rattle.mailmap_batches.specs.Batches.{IsAscending, IsSorted, indexed_mapping}
+use Rattle.mailmap_batches.specs.Batches.{IsWeaklySortedBy, IsSorted, indexed_mapping}
 use Rattle.mailmap_batches.specs.declared.indexed.IndexedEntry.{IndexedEntry}
 use Rattle.mailmap_redundancy.specs.Redundancy.{located_of}
 use Rattle.mailmap_redundancy.specs.declared.keys.NumberedEntry.{NumberedEntry}
@@ -144,8 +144,8 @@ key_pushed ks ks' email k (Some n) has p = rw p.0 (
 abbrev pub Indexed : Type 0
 Indexed = ℕ × Mapping
 
-abbrev pub said : List LocatedEntry → List Mapping
-said history = map (λ x. mapping_of x.entry) history
+abbrev pub entry_mappings : List LocatedEntry → List Mapping
+entry_mappings history = map (λ x. mapping_of x.entry) history
 
 -- ---- sorted entries with their indices
 
@@ -176,16 +176,16 @@ HasNumbers keys k x = IsNumber keys k x.key_number × IsNumber keys (email_key k
 -- others is below them.
 pub record IsWalk (history : List LocatedEntry) (order : List IndexedEntry) (i : ℕ) (keys : List Key) (email : ℕ)
     (rows : List NumberedEntry) : Type 0 where
-  pub sorted : IsSorted (said history) (map indexed_mapping order)
+  pub sorted : IsSorted (entry_mappings history) (map indexed_mapping order)
   pub located : located_mappings rows ≡ map located_of history
   pub keyed : AreAscending keys email
-  pub ascending : IsAscending key_cmp (option_to_list (last_key keys)
+  pub ascending : IsWeaklySortedBy key_cmp (option_to_list (last_key keys)
       ++ map (λ p. key p.1) (drop i (map indexed_mapping order)))
   pub numbered : (j : ℕ) (p : Indexed) (d : NumberedEntry) → j < i → get_or (map indexed_mapping order) j p ≡ p
       → HasNumbers keys (key p.1) (get_or rows p.0 d)
 
-next : (o : Option Key) (k : Key) (rest : List Key) → IsAscending key_cmp (option_to_list o ++ k ∷ rest)
-    → ((l : Key) → o ≡ Some l → is_lt (key_cmp k l) ≡ false) × IsAscending key_cmp (k ∷ rest)
+next : (o : Option Key) (k : Key) (rest : List Key) → IsWeaklySortedBy key_cmp (option_to_list o ++ k ∷ rest)
+    → ((l : Key) → o ≡ Some l → is_lt (key_cmp k l) ≡ false) × IsWeaklySortedBy key_cmp (k ∷ rest)
 next None k rest up = (λ l is. absurd (cc), up)
 next (Some m) k rest up = (λ l is. subst (λ l. is_lt (key_cmp k l) ≡ false) (same_Some m l is) up.0.0, up.1)
 
@@ -201,22 +201,22 @@ module _ (history : List LocatedEntry) (order : List IndexedEntry) (i : ℕ) (ke
   here : (i < length ps) × (get_or ps i p ≡ p)
   here = grind (arith, common_steps, is, length-map, get_or-map)
 
-  found : slice_get (said history) p.0 ≡ Some p.1
-  found = at_its_index (said history) ps walk.sorted.keeps.moved p (i, here.0, here.1)
+  found : slice_get (entry_mappings history) p.0 ≡ Some p.1
+  found = at_its_index (entry_mappings history) ps walk.sorted.moved p (i, here.0, here.1)
 
   pub row_within : at.index < length rows
   row_within =
-      let inside = slice_get_within (said history) p.0 p.1 found in
+      let inside = slice_get_within (entry_mappings history) p.0 p.1 found in
       omega (
         arith,
-        length-map rows located_entry_of,
+        length-map rows located_mapping_of,
         length-map history located_of,
         ap length walk.located,
         length-map history (λ (x : LocatedEntry). mapping_of x.entry),
       )
 
-  ascends : IsAscending key_cmp (option_to_list (last_key keys) ++ key p.1 ∷ map (λ q. key q.1) (drop (i + 1) ps))
-  ascends = subst (λ l. IsAscending key_cmp (option_to_list (last_key keys) ++ map (λ q. key q.1) l))
+  ascends : IsWeaklySortedBy key_cmp (option_to_list (last_key keys) ++ key p.1 ∷ map (λ q. key q.1) (drop (i + 1) ps))
+  ascends = subst (λ l. IsWeaklySortedBy key_cmp (option_to_list (last_key keys) ++ map (λ q. key q.1) l))
       (drop_more ps i p here.0 ∙ ap (λ q. q ∷ drop (i + 1) ps) here.1) walk.ascending
 
   pub reached : IsNotBelowLast keys (key p.1)
@@ -229,12 +229,12 @@ module _ (history : List LocatedEntry) (order : List IndexedEntry) (i : ℕ) (ke
       → IsWalk history order (i + 1) keys' email' (set rows p.0 row)
   walked keys' email' row old keyed last keeps same own first = record {
     sorted = walk.sorted;
-    located = map-set_same located_entry_of rows p.0 row old (ap (λ x. located_of x.now) same) ∙ walk.located;
+    located = map-set_same located_mapping_of rows p.0 row old (ap (λ x. located_of x.now) same) ∙ walk.located;
     keyed = keyed;
-    ascending = subst (λ o. IsAscending key_cmp (option_to_list o ++ map (λ q. key q.1) (drop (i + 1) ps))) (sym last)
+    ascending = subst (λ o. IsWeaklySortedBy key_cmp (option_to_list o ++ map (λ q. key q.1) (drop (i + 1) ps))) (sym last)
         (next _ _ _ ascends).1;
     numbered = λ j q d lt has. ⊎_elim (λ same.
-        let other = at_its_index (said history) ps walk.sorted.keeps.moved q (j, omega (arith, here.0, lt), has) in
+        let other = at_its_index (entry_mappings history) ps walk.sorted.moved q (j, omega (arith, here.0, lt), has) in
         let one : p.1 ≡ q.1 = grind (arith, found, other, same) in
         rw (get_or-set_at rows p.0 q.0 row d same row_within) (subst (λ m. HasNumbers keys' (key m) row) one
         (rw own last, rw first (keyed.of_email _ last))))
@@ -247,7 +247,7 @@ module _ (history : List LocatedEntry) (order : List IndexedEntry) (i : ℕ) (ke
 
 -- before the first step
 pub none_walked : (history : List LocatedEntry) (order : List IndexedEntry) (keys : List Key) (rows : List NumberedEntry)
-    → keys ≡ [] → located_mappings rows ≡ map located_of history → IsSorted (said history) (map indexed_mapping order)
+    → keys ≡ [] → located_mappings rows ≡ map located_of history → IsSorted (entry_mappings history) (map indexed_mapping order)
     → IsWalk history order 0 keys 0 rows
 unfolding IsStrictlySortedBy
 none_walked history order keys rows none located sorted = subst (λ l. IsWalk history order 0 l 0 rows) (sym none) (record {
@@ -266,11 +266,11 @@ all_numbered history order i keys email rows walk over accepted m d within =
     let h = d.located.now in
     let e = numbered_mapping (get_or rows m d) in
     let inside : m < length history =
-    omega (arith, length-map rows located_entry_of, length-map history located_of, ap length walk.located) in
+    omega (arith, length-map rows located_mapping_of, length-map history located_of, ap length walk.located) in
     let same : e ≡ mapping_of (get_or history m h).entry =
-    ap (λ x. x.entry) (sym (get_or-map located_entry_of rows m d (located_of h) within)
+    ap (λ x. x.entry) (sym (get_or-map located_mapping_of rows m d (located_of h) within)
     ∙ ap (λ l. get_or l m (located_of h)) walk.located ∙ get_or-map located_of history m h (located_of h) inside) in
-    let has = comes (said history) (map indexed_mapping order) walk.sorted.keeps.moved m e
-    (subst (λ x. slice_get (said history) m ≡ Some x) (sym same) (grind (arith, common_steps, gets))) in
+    let has = comes (entry_mappings history) (map indexed_mapping order) walk.sorted.moved m e
+    (subst (λ x. slice_get (entry_mappings history) m ≡ Some x) (sym same) (grind (arith, common_steps, gets))) in
     let is = walk.numbered has.0 (m, e) d (omega (arith, has.1, length-map order indexed_mapping)) has.2 in
     record { own = is.0; of_email = is.1; accepted = subst (λ x. is_accepted x ≡ true) (sym same) (accepted m h inside) }

@@ -27,7 +27,7 @@ use Rattle.mailmap_entries.proofs.Parts.{all_last, filter-map, first-append, is_
 use Rattle.mailmap_redundancy.specs.Redundancy.{IsRedundant, LocatedMapping, entries, entries_of_key, located_of_reference}
 use Rattle.mailmap_redundancy.specs.declared.located.LocatedEntry.{LocatedEntry}
 use Rattle.mailmap_redundancy.specs.Origins.{entries_of_email, last_with}
-use Rattle.mailmap_redundancy.specs.Numbers.{Said, email_origin, is_redundant, joined_said, name_origin, referred, said, said_by, said_of_one, value_said}
+use Rattle.mailmap_redundancy.specs.Summaries.{Summary, email_origin, is_redundant, joined_summary, later_of, name_origin, referred, summary_for, summary_by, summary_of_one, value_from}
 use Rattle.std.proofs.lemmas.List.{map-append}
 use Rattle.std.specs.List.{AllByRecursion}
 
@@ -83,27 +83,31 @@ given_last f (x ∷ xs) =
     let some = last_passes (λ x. is_some (f x.entry)) xs in grind (arith, given_last f xs, some)
 
 -- what the accepted entries say
-abbrev pub told : LocatedMappings → Key → Said
-told xs k = said (good xs) k
+abbrev pub good_summary : LocatedMappings → Key → Summary
+good_summary xs k = summary_for (good xs) k
 
-value_by : (xs : LocatedMappings) (k : Key) → value (entries xs) k ≡ value_said (is_some k.1) (told xs k)
+value_by : (xs : LocatedMappings) (k : Key) → value (entries xs) k ≡ value_from (is_some k.1) (good_summary xs k)
 value_by xs (email, None) = search (rules, keyed_good, mailed_good, given_last, first-map)
 value_by xs (email, Some name) = search (rules, keyed_good, mailed_good, first-map, last-map)
 
-pub there_by : (xs : LocatedMappings) (k : Key) → has_key (accepted (entries xs)) k ≡ is_some (told xs k).of_key.last
+pub there_by : (xs : LocatedMappings) (k : Key) → has_key (accepted (entries xs)) k ≡ is_some (good_summary xs k).of_key.last
 there_by xs k = known (entries xs) k ∙ ap (λ l. is_some (first l)) (keyed_good xs k) ∙ some (entries_of_key (good xs) k)
   where
     some : (l : LocatedMappings) → is_some (first (entries l)) ≡ is_some (last l)
     some [] = refl
     some (x ∷ l) = refl
 
-told_parts : (xs ys : LocatedMappings) (k : Key) → told (xs ++ ys) k ≡ joined_said (told xs k) (told ys k)
-told_parts xs ys k = simp (filter-append, first-append, last-append)
+good_parts : (xs ys : LocatedMappings) (k : Key) → good_summary (xs ++ ys) k ≡ joined_summary (good_summary xs k) (good_summary ys k)
+good_parts xs ys k = simp (filter-append, first-append, last-append)
 
-told_own : (x : LocatedMapping) → is_accepted x.entry ≡ true → told (x ∷ []) (key x.entry) ≡ said_of_one x
-told_own x fine = search (rules, own_email, own_key)
+good_own : (x : LocatedMapping) → is_accepted x.entry ≡ true → good_summary (x ∷ []) (key x.entry) ≡ summary_of_one x
+good_own x fine = search (rules, own_email, own_key)
 
 -- ---- redundant entries
+
+-- whether x is redundant between entries with these summaries
+abbrev pub is_redundant_between : Summary → LocatedMapping → Summary → Bool
+is_redundant_between before x after = is_redundant before x (later_of x after)
 
 -- lists with the same keys, each of the same value, have the same normal lists
 same_values : (h g n : List Mapping) → ((k : Key) → has_key (accepted h) k ≡ has_key (accepted g) k)
@@ -130,11 +134,11 @@ redundant_alike a e c redundant =
 
 -- ---- dropping one entry
 
--- without x between what is said before and after it, its key is still there, and its value is the same
-pub record Stays (is_named : Bool) (before : Said) (x : LocatedMapping) (after : Said) : Type 0 where
-  pub there : is_some (joined_said before after).of_key.last ≡ true
-  pub same : value_said is_named (joined_said (joined_said before (said_of_one x)) after)
-      ≡ value_said is_named (joined_said before after)
+-- without x, the summaries before and after it still have its key, with the same value
+pub record Stays (is_named : Bool) (before : Summary) (x : LocatedMapping) (after : Summary) : Type 0 where
+  pub there : is_some (joined_summary before after).of_key.last ≡ true
+  pub same : value_from is_named (joined_summary (joined_summary before (summary_of_one x)) after)
+      ≡ value_from is_named (joined_summary before after)
 
 pub has_referred : (o : Option (Bor LocatedEntry)) → is_some (referred o) ≡ is_some o
 has_referred o = sym (is_some-option_map located_of_reference o)
@@ -159,24 +163,24 @@ overridden : (f : Mapping → Option Text) (before own after : Option LocatedMap
 overridden f before own None = refl
 overridden f before own (Some y) = sym (optional_itself (f y.entry))
 
-module _ (before : Said) (x : LocatedMapping) (after : Said) where
-  abbrev own : Said
-  own = said_of_one x
+module _ (before : Summary) (x : LocatedMapping) (after : Summary) where
+  abbrev own : Summary
+  own = summary_of_one x
 
   abbrev value_with : Bool → Mapping
-  value_with n = value_said n (joined_said (joined_said before own) after)
+  value_with n = value_from n (joined_summary (joined_summary before own) after)
 
   abbrev value_without : Bool → Mapping
-  value_without n = value_said n (joined_said before after)
+  value_without n = value_from n (joined_summary before after)
 
   new_name_test : (n : Bool)
-      → is_some (name_origin n after.of_key) || same_optional (value_said n (joined_said before own)).new_name (value_said n before).new_name
+      → is_some (name_origin n after.of_key) || same_optional (value_from n (joined_summary before own)).new_name (value_from n before).new_name
       ≡ same_optional (value_with n).new_name (value_without n).new_name
   new_name_test true = overridden (λ e. e.new_name) before.of_key.last own.of_key.last after.of_key.last
   new_name_test false = overridden (λ e. e.new_name) before.of_key.name own.of_key.name after.of_key.name
 
   new_email_test : (n : Bool)
-      → is_some (email_origin n after.of_key) || same_optional (value_said n (joined_said before own)).new_email (value_said n before).new_email
+      → is_some (email_origin n after.of_key) || same_optional (value_from n (joined_summary before own)).new_email (value_from n before).new_email
       ≡ same_optional (value_with n).new_email (value_without n).new_email
   new_email_test true = overridden (λ e. e.new_email) before.of_key.last own.of_key.last after.of_key.last
   new_email_test false = overridden (λ e. e.new_email) before.of_key.email own.of_key.email after.of_key.email
@@ -184,18 +188,18 @@ module _ (before : Said) (x : LocatedMapping) (after : Said) where
   abbrev named : Bool
   named = is_some (key x.entry).1
 
-  old_name_test : is_some before.of_key.first || same_optional x.entry.old_name (value_said named after).old_name
+  old_name_test : is_some before.of_key.first || same_optional x.entry.old_name (value_from named after).old_name
       ≡ same_optional (value_with named).old_name (value_without named).old_name
   old_name_test = grind (arith, optional_itself)
 
-  old_email_test : is_some before.spelling || pointwise nat_eq x.entry.old_email (value_said named after).old_email
+  old_email_test : is_some before.spelling || pointwise nat_eq x.entry.old_email (value_from named after).old_email
       ≡ pointwise nat_eq (value_with named).old_email (value_without named).old_email
   old_email_test = grind (arith, nat_list_eq_equiv)
 
-  pub tests_values : is_redundant before x after ≡ is_some (joined_said before after).of_key.last && same_entry (value_with named) (value_without named)
+  pub tests_values : is_redundant_between before x after ≡ is_some (joined_summary before after).of_key.last && same_entry (value_with named) (value_without named)
   tests_values = (λ i. there_without before.of_key.last after.of_key.last i
       && ((new_name_test named i && new_email_test named i) && (old_name_test i && old_email_test i)))
-      ∙ ap (λ b. is_some (joined_said before after).of_key.last && b)
+      ∙ ap (λ b. is_some (joined_summary before after).of_key.last && b)
       (and_twice (same_optional (value_with named).new_name (value_without named).new_name)
       (same_optional (value_with named).new_email (value_without named).new_email) _)
 
@@ -210,22 +214,22 @@ module _ (a : LocatedMappings) (x : LocatedMapping) (c : LocatedMappings) (fine 
   without = a ++ c
 
   abbrev pub KeyStays : Type 0
-  KeyStays = Stays (is_some k.1) (told a k) x (told c k)
+  KeyStays = Stays (is_some k.1) (good_summary a k) x (good_summary c k)
 
-  around : told with_x k ≡ joined_said (joined_said (told a k) (said_of_one x)) (told c k)
-  around = ap (λ l. told l k) (sym (append_assoc a (x ∷ []) c)) ∙ told_parts (a ++ x ∷ []) c k
-      ∙ ap (λ s. joined_said s (told c k)) (told_parts a (x ∷ []) k ∙ ap (joined_said (told a k)) (told_own x fine))
+  around : good_summary with_x k ≡ joined_summary (joined_summary (good_summary a k) (summary_of_one x)) (good_summary c k)
+  around = ap (λ l. good_summary l k) (sym (append_assoc a (x ∷ []) c)) ∙ good_parts (a ++ x ∷ []) c k
+      ∙ ap (λ s. joined_summary s (good_summary c k)) (good_parts a (x ∷ []) k ∙ ap (joined_summary (good_summary a k)) (good_own x fine))
 
-  there : is_some (told with_x k).of_key.last ≡ true
-  there = ap (λ (s : Said). is_some s.of_key.last) around ∙ some (told c k).of_key.last
+  there : is_some (good_summary with_x k).of_key.last ≡ true
+  there = ap (λ (s : Summary). is_some s.of_key.last) around ∙ some (good_summary c k).of_key.last
     where
       some : (o : Option LocatedMapping) → is_some (option_or o (Some x)) ≡ true
       some None = refl
       some (Some y) = refl
 
-  own_value : KeyStays → value_said (is_some k.1) (told with_x k) ≡ value_said (is_some k.1) (told without k)
-  own_value stays = ap (value_said (is_some k.1)) around ∙ stays.same
-      ∙ ap (value_said (is_some k.1)) (sym (told_parts a c k))
+  own_value : KeyStays → value_from (is_some k.1) (good_summary with_x k) ≡ value_from (is_some k.1) (good_summary without k)
+  own_value stays = ap (value_from (is_some k.1)) around ∙ stays.same
+      ∙ ap (value_from (is_some k.1)) (sym (good_parts a c k))
 
   -- the entries of another key are the same, and so is the spelling of each email
   of_other : (j : Key) → eq_by_cmp key_cmp j k ≡ false
@@ -247,18 +251,18 @@ module _ (a : LocatedMappings) (x : LocatedMapping) (c : LocatedMappings) (fine 
 
   -- a key is there with and without x, or it isn't, and its value is the same
   abbrev IsSame : Key → Type 0
-  IsSame j = (is_some (told with_x j).of_key.last ≡ is_some (told without j).of_key.last)
-      × (value_said (is_some j.1) (told with_x j) ≡ value_said (is_some j.1) (told without j))
+  IsSame j = (is_some (good_summary with_x j).of_key.last ≡ is_some (good_summary without j).of_key.last)
+      × (value_from (is_some j.1) (good_summary with_x j) ≡ value_from (is_some j.1) (good_summary without j))
 
   same : KeyStays → (j : Key) → IsSame j
   same stays j = ⊎_elim
       (λ own. subst IsSame (sym (tells_apart keys_exact j k own)) (
-        there ∙ sym (ap (λ (s : Said). is_some s.of_key.last) (told_parts a c k) ∙ stays.there),
+        there ∙ sym (ap (λ (s : Summary). is_some s.of_key.last) (good_parts a c k) ∙ stays.there),
         own_value stays,
       ))
       (λ other. (
         ap (λ l. is_some (last l)) (of_other j other),
-        λ i. record (value_said (is_some j.1) (said_by (of_other j other i) [])) { old_email = same_spelling stays j.0 i },
+        λ i. record (value_from (is_some j.1) (summary_by (of_other j other i) [])) { old_email = same_spelling stays j.0 i },
       ))
       (cases_Bool (eq_by_cmp key_cmp j k))
 
@@ -269,11 +273,11 @@ module _ (a : LocatedMappings) (x : LocatedMapping) (c : LocatedMappings) (fine 
         rw (map-append (λ (y : LocatedMapping). y.entry) a (x ∷ c), map-append (λ (y : LocatedMapping). y.entry) a c)
         (redundant_alike (entries a) x.entry (entries c) redundant) in
         record {
-          there = ap (λ (s : Said). is_some s.of_key.last) (sym (told_parts a c k)) ∙ sym (there_by without k)
+          there = ap (λ (s : Summary). is_some s.of_key.last) (sym (good_parts a c k)) ∙ sym (there_by without k)
               ∙ sym (alike.keys k) ∙ there_by with_x k ∙ there;
-          same = ap (value_said (is_some k.1)) (sym around) ∙ sym (value_by with_x k)
+          same = ap (value_from (is_some k.1)) (sym around) ∙ sym (value_by with_x k)
               ∙ same_value (entries with_x) (entries without) alike k ∙ value_by without k
-              ∙ ap (value_said (is_some k.1)) (told_parts a c k);
+              ∙ ap (value_from (is_some k.1)) (good_parts a c k);
         },
     λ stays n.
         let keys : (j : Key) → has_key (accepted (entries with_x)) j ≡ has_key (accepted (entries without)) j =
@@ -289,23 +293,23 @@ module _ (a : LocatedMappings) (x : LocatedMapping) (c : LocatedMappings) (fine 
         ),
   )
 
-  pub said_decides : Decides (is_redundant (told a k) x (told c k)) (IsRedundant (entries a) x.entry (entries c))
-  said_decides =
+  pub summaries_decide : Decides (is_redundant_between (good_summary a k) x (good_summary c k)) (IsRedundant (entries a) x.entry (entries c))
+  summaries_decide =
       let same = entry_decides _ _ in (
         λ yes.
-            let both = and_parts (is_some (joined_said (told a k) (told c k)).of_key.last) _ (sym (tests_values (told a k) x (told c k)) ∙ yes) in
+            let both = and_parts (is_some (joined_summary (good_summary a k) (good_summary c k)).of_key.last) _ (sym (tests_values (good_summary a k) x (good_summary c k)) ∙ yes) in
             stays_decides.1 (record { there = both.0; same = same.0 both.1 }),
         λ redundant.
             let stays = stays_decides.0 redundant in
-            tests_values (told a k) x (told c k)
-            ∙ and_from (is_some (joined_said (told a k) (told c k)).of_key.last) _ stays.there (same.1 stays.same),
+            tests_values (good_summary a k) x (good_summary c k)
+            ∙ and_from (is_some (joined_summary (good_summary a k) (good_summary c k)).of_key.last) _ stays.there (same.1 stays.same),
       )
 
 -- each entry is redundant or not
 pub redundant_or_not : (a : LocatedMappings) (x : LocatedMapping) (c : LocatedMappings)
     → IsRedundant (entries a) x.entry (entries c) ⊎ (IsRedundant (entries a) x.entry (entries c) → ⊥)
 redundant_or_not a x c = ⊎_elim (λ fine.
-    let decides = said_decides a x c fine in
+    let decides = summaries_decide a x c fine in
     ⊎_elim (λ yes. inl (decides.0 yes)) (λ no. inr (λ redundant. true≢false (sym (decides.1 redundant) ∙ no)))
-    (cases_Bool (is_redundant (told a (key x.entry)) x (told c (key x.entry)))))
+    (cases_Bool (is_redundant_between (good_summary a (key x.entry)) x (good_summary c (key x.entry)))))
     (λ bad. inl (unaccepted_redundant (entries a) x.entry (entries c) bad)) (cases_Bool (is_accepted x.entry))

@@ -13,10 +13,10 @@ use Rattle.mailmap_entries.specs.Semantics.{Key, is_accepted, key, key_cmp}
 use Rattle.mailmap_entries.proofs.Parts.{all_append, all_weaker, first-append, last-append, all_mapped}
 use Rattle.mailmap_redundancy.specs.Origins.{entries_of_email}
 use Rattle.mailmap_redundancy.specs.Redundancy.{LocatedMapping, entries_of_key, IsPass, IsRedundant, goes, stays, entries, AreEffective, settled, again}
-use Rattle.mailmap_redundancy.specs.Numbers.{IsKnown, IsNumber, IsNumbered, IsTableOf, IsWith, email_key, joined_said, located_entry_of, located_mappings, said, said_of_one, IsTable, numbered_mapping, is_redundant, later_of, later_of_each}
+use Rattle.mailmap_redundancy.specs.Summaries.{IsKnown, IsNumber, IsNumbered, IsTableOf, IsWith, email_key, joined_summary, located_mapping_of, located_mappings, summary_for, summary_of_one, IsTable, numbered_mapping, later_of, later_of_each}
 use Rattle.mailmap_redundancy.specs.declared.keys.NumberedEntry.{NumberedEntry}
 use Rattle.mailmap_redundancy.proofs.Numbered.{unequal_emails, unequal_keys, same_number}
-use Rattle.mailmap_redundancy.proofs.Redundant.{own_email, own_key, said_decides}
+use Rattle.mailmap_redundancy.proofs.Redundant.{is_redundant_between, own_email, own_key, summaries_decide}
 use Rattle.std.specs.Bool.{Decides}
 use Rattle.mailmap_redundancy.specs.declared.passes.Later.{Later}
 use Rattle.mailmap_redundancy.specs.declared.table.Table.{Table}
@@ -26,11 +26,11 @@ use Rattle.mailmap_redundancy.proofs.Kept.{all_good as good_itself, pass_whole}
 
 -- the entries before the index after one step forwards, and those from it on after one step backwards
 pub located_mappings_more : (xs : List NumberedEntry) (i : ℕ) (x : NumberedEntry) → i < length xs → x ≡ get_or xs i x
-    → located_mappings (take (i + 1) xs) ≡ located_mappings (take i xs) ++ located_entry_of x ∷ []
+    → located_mappings (take (i + 1) xs) ≡ located_mappings (take i xs) ++ located_mapping_of x ∷ []
 located_mappings_more xs i x within is = grind (arith, common_steps, map_more)
 
 pub located_mappings_next : (xs : List NumberedEntry) (i j : ℕ) (x : NumberedEntry) → i < length xs → x ≡ get_or xs i x
-    → j ≡ i + 1 → located_mappings (drop i xs) ≡ located_entry_of x ∷ located_mappings (drop j xs)
+    → j ≡ i + 1 → located_mappings (drop i xs) ≡ located_mapping_of x ∷ located_mappings (drop j xs)
 located_mappings_next xs i j x within is next = search (rules, drop_more)
 
 pub same_ends : {X : Type 0} (xs ys : List X) (x y : X) → xs ++ x ∷ [] ≡ ys ++ y ∷ [] → (xs ≡ ys) × (x ≡ y)
@@ -46,7 +46,7 @@ same_ends (a ∷ xs) (b ∷ ys) x y e = grind (arith, common_steps)
 contained : (ks : List Key) (k : Key) (i : ℕ) → IsNumber ks k i → Contains ks k
 contained ks k i is = (i, slice_get_within ks i k is, get_or_from_slice_get ks i k k is)
 
-pub known : (ks : List Key) (x : NumberedEntry) → IsNumbered ks x → IsKnown ks (located_entry_of x)
+pub known : (ks : List Key) (x : NumberedEntry) → IsNumbered ks x → IsKnown ks (located_mapping_of x)
 known ks x n = search (rules, contained)
 
 pub none_of_unknown : (ks : List Key) (k : Key) → (Contains ks k → ⊥) → (xs : List LocatedMapping)
@@ -81,18 +81,18 @@ row_changed {X} keys key_of view f g rows x i z up one table is new others y j n
 pub email_keys : (a b : Text) → email_key a ≡ email_key b → a ≡ b
 email_keys a b e = ap (λ k. k.0) e
 
-pub said_parts : (xs ys : List LocatedMapping) (k : Key) → said (xs ++ ys) k ≡ joined_said (said xs k) (said ys k)
-said_parts xs ys k = simp (filter-append, first-append, last-append)
+pub summary_parts : (xs ys : List LocatedMapping) (k : Key) → summary_for (xs ++ ys) k ≡ joined_summary (summary_for xs k) (summary_for ys k)
+summary_parts xs ys k = simp (filter-append, first-append, last-append)
 
-said_own : (x : LocatedMapping) → said (x ∷ []) (key x.entry) ≡ said_of_one x
-said_own x = search (rules, own_email, own_key)
+summary_own : (x : LocatedMapping) → summary_for (x ∷ []) (key x.entry) ≡ summary_of_one x
+summary_own x = search (rules, own_email, own_key)
 
 module _ (xs : List LocatedMapping) (x : LocatedMapping) where
-  pub said_after : said (xs ++ x ∷ []) (key x.entry) ≡ joined_said (said xs (key x.entry)) (said_of_one x)
-  said_after = said_parts xs (x ∷ []) (key x.entry) ∙ ap (joined_said (said xs (key x.entry))) (said_own x)
+  pub summary_after : summary_for (xs ++ x ∷ []) (key x.entry) ≡ joined_summary (summary_for xs (key x.entry)) (summary_of_one x)
+  summary_after = summary_parts xs (x ∷ []) (key x.entry) ∙ ap (joined_summary (summary_for xs (key x.entry))) (summary_own x)
 
-  pub said_before : said (x ∷ xs) (key x.entry) ≡ joined_said (said_of_one x) (said xs (key x.entry))
-  said_before = said_parts (x ∷ []) xs (key x.entry) ∙ ap (λ s. joined_said s (said xs (key x.entry))) (said_own x)
+  pub summary_before : summary_for (x ∷ xs) (key x.entry) ≡ joined_summary (summary_of_one x) (summary_for xs (key x.entry))
+  summary_before = summary_parts (x ∷ []) xs (key x.entry) ∙ ap (λ s. joined_summary s (summary_for xs (key x.entry))) (summary_own x)
 
   -- an entry that fails the filter's test doesn't matter
   pub not_with : (p : LocatedMapping → Bool) (ys : List LocatedMapping) → IsWith xs x ys → p x ≡ false
@@ -133,43 +133,43 @@ module _ (keys : List Key) (all : List NumberedEntry) (numbered : All (IsNumbere
   abbrev rest : List LocatedMapping
   rest = located_mappings (drop (i + 1) all)
 
-  next : located_mappings (drop i all) ≡ located_entry_of x ∷ rest
+  next : located_mappings (drop i all) ≡ located_mapping_of x ∷ rest
   next = located_mappings_next all i (i + 1) x within is refl
 
-  pub ends : (left ≡ later_of_each rest) × (later ≡ later_of (located_entry_of x) (said rest (key (numbered_mapping x))))
-  ends = same_ends left (later_of_each rest) later (later_of (located_entry_of x) (said rest (key (numbered_mapping x))))
+  pub ends : (left ≡ later_of_each rest) × (later ≡ later_of (located_mapping_of x) (summary_for rest (key (numbered_mapping x))))
+  ends = same_ends left (later_of_each rest) later (later_of (located_mapping_of x) (summary_for rest (key (numbered_mapping x))))
       (sym popped ∙ so.asked ∙ ap later_of_each next)
 
   abbrev pub test : Bool
-  test = is_redundant (said (located_mappings kept) (key (numbered_mapping x))) (located_entry_of x) (said rest (key (numbered_mapping x)))
+  test = is_redundant_between (summary_for (located_mappings kept) (key (numbered_mapping x))) (located_mapping_of x) (summary_for rest (key (numbered_mapping x)))
 
   decides : Decides test (IsRedundant (entries (located_mappings kept)) (numbered_mapping x) (entries rest))
-  decides = subst (λ (l : List LocatedMapping × List LocatedMapping). Decides (is_redundant (said l.0 (key (numbered_mapping x)))
-      (located_entry_of x) (said l.1 (key (numbered_mapping x)))) (IsRedundant (entries (located_mappings kept)) (numbered_mapping x) (entries rest)))
+  decides = subst (λ (l : List LocatedMapping × List LocatedMapping). Decides (is_redundant_between (summary_for l.0 (key (numbered_mapping x)))
+      (located_mapping_of x) (summary_for l.1 (key (numbered_mapping x)))) (IsRedundant (entries (located_mappings kept)) (numbered_mapping x) (entries rest)))
       (λ j. (
         good_itself (located_mappings kept) (all_accepted keys (located_mappings kept) so.table.known) j,
         good_itself rest (all_good keys all (i + 1) numbered) j,
       ))
-      (said_decides (located_mappings kept) (located_entry_of x) rest n.accepted)
+      (summaries_decide (located_mappings kept) (located_mapping_of x) rest n.accepted)
 
   pub going : test ≡ true → IsPassing keys all (i + 1) left before kept
   going redundant = record {
     asked = ends.0;
     table = so.table;
     numbered = so.numbered;
-    left = λ out p. so.left out (rw next (goes (located_mappings kept) (located_entry_of x) rest out (decides.0 redundant) p));
+    left = λ out p. so.left out (rw next (goes (located_mappings kept) (located_mapping_of x) rest out (decides.0 redundant) p));
   }
 
   pub staying : (after : Table) (kept' : List NumberedEntry) → test ≡ false → kept' ≡ kept ++ x ∷ []
-      → IsTable keys (located_mappings kept ++ located_entry_of x ∷ []) after → IsPassing keys all (i + 1) left after kept'
+      → IsTable keys (located_mappings kept ++ located_mapping_of x ∷ []) after → IsPassing keys all (i + 1) left after kept'
   staying after kept' works pushed table =
-      let grown : located_mappings kept' ≡ located_mappings kept ++ located_entry_of x ∷ [] =
-      ap located_mappings pushed ∙ map_push located_entry_of kept x in
+      let grown : located_mappings kept' ≡ located_mappings kept ++ located_mapping_of x ∷ [] =
+      ap located_mappings pushed ∙ map_push located_mapping_of kept x in
       record {
         asked = ends.0;
         table = rw grown table;
         numbered = rw pushed (All-push (IsNumbered keys) kept x so.numbered n);
-        left = λ out p. so.left out (rw next (stays (located_mappings kept) (located_entry_of x) rest out
+        left = λ out p. so.left out (rw next (stays (located_mappings kept) (located_mapping_of x) rest out
             (λ redundant. true≢false (sym (decides.1 redundant) ∙ works)) (rw (← grown) p)));
       }
 

@@ -3,4 +3,4 @@ pub use Rattle.mailmap_entries.specs.Entries
 pub use Rattle.mailmap_entries.specs.Semantics
 pub mod Redundancy
 pub mod Origins
-pub mod Numbers
+pub mod Summaries

@@ -8,7 +8,7 @@ use Rattle.mailmap_entries.specs.Folding.{Text, folded, text_cmp}
 use Rattle.mailmap_entries.specs.Semantics.{Fields, first, given_fields, last, last_fields, respelled, unless_empty}
 use Rattle.mailmap_redundancy.specs.Redundancy.{LocatedMapping, entries_of_key}
 
--- the entries of a folded email
+-- the entries of a folded email, accepted or not
 abbrev pub entries_of_email : List LocatedMapping → Text → List LocatedMapping
 entries_of_email xs email = filter (λ x. eq_by_cmp text_cmp email (folded x.entry.old_email)) xs
 

@@ -33,7 +33,8 @@ abbrev pub IsRedundant : List Mapping → Mapping → List Mapping → Type 0
 IsRedundant before e after = (n : List Mapping) → IsNormal (before ++ e ∷ after) n ↔ IsNormal (before ++ after) n
 
 -- One pass from first to last: an entry is dropped if it is redundant between the entries kept before it and all
--- entries after it.
+-- entries after it. In `IsPass kept xs out`, the pass has kept the entries of the first list, those of the second are
+-- still to come, and the third has all that it keeps.
 pub data IsPass : List LocatedMapping → List LocatedMapping → List LocatedMapping → Type 0 where
   done : (kept : List LocatedMapping) → IsPass kept [] kept
   goes : (kept : List LocatedMapping) (x : LocatedMapping) (xs out : List LocatedMapping)
@@ -47,6 +48,7 @@ pub data AreEffective : List LocatedMapping → List LocatedMapping → Type 0 w
   settled : (xs : List LocatedMapping) → IsPass [] xs xs → AreEffective xs xs
   again : (xs some kept : List LocatedMapping) → IsPass [] xs some → AreEffective some kept → AreEffective xs kept
 
+-- the entries of a key, accepted or not
 abbrev pub entries_of_key : List LocatedMapping → Key → List LocatedMapping
 entries_of_key xs k = filter (λ x. eq_by_cmp key_cmp k (key x.entry)) xs
 

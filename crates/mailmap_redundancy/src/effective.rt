@@ -3,14 +3,14 @@ ghost use Rattle.std.specs.Prelude.{◌≡◌, [], All, IfOk, List, Some, is_som
 ghost use Rattle.std.specs.List.Sorted.{IsStrictlySortedBy};
 ghost use Rattle.mailmap_entries.specs.Entries.{mapping_of};
 ghost use Rattle.mailmap_entries.specs.Folding.{folded};
-ghost use Rattle.mailmap_entries.specs.Semantics as answers;
+ghost use Rattle.mailmap_entries.specs.Semantics as semantics;
 ghost use Rattle.mailmap_entries.specs.Semantics.{is_accepted, key, key_cmp, last_fields, spelling};
 ghost use Rattle.mailmap_redundancy.specs.Redundancy.{AreEffective, IsPass, LocatedMapping, entries, last_of_key, located_of};
 ghost use Rattle.mailmap_redundancy.specs.Redundancy.{located_of_reference};
 ghost use Rattle.mailmap_redundancy.specs.Origins.{git_answer_from, git_given, given, last_or_all as spec_last_or_all, origins as spec_origins};
-ghost use Rattle.mailmap_redundancy.specs.Numbers.{EffectiveEntries, IsEffectiveState, IsNumbered, email_key, key_origins, key_origins_of, located_mappings, origins_of, referred, said, said_of};
+ghost use Rattle.mailmap_redundancy.specs.Summaries.{EffectiveEntries, IsEffectiveState, IsNumbered, email_key, key_summary, key_summary_of, located_mappings, origins_of, referred, summary_for, summary_of};
 
-use crate::keys::{Key, NumberedEntry, find, number, unnumbered};
+use crate::keys::{Key, NumberedEntry, find, number_entries, unnumbered};
 use crate::located::LocatedEntry;
 use crate::origins::Origins;
 use crate::passes::{drop_redundant_once, drop_until_stable};
@@ -62,7 +62,7 @@ impl<'p, 'a> Effective<'p, 'a> {
     pub fn origins(&self, name: &[u8], email: &[u8]) -> Origins<'p, 'a>
         ensures origins { origins_of result ≡ spec_origins self.now.kept name.now email.now }
         ensures answer { given (origins_of result) email.now
-            ≡ answers.answer_of (entries self.now.history) name.now email.now }
+            ≡ semantics.answer_of (entries self.now.history) name.now email.now }
         ensures git_answer { git_given (origins_of result)
             ≡ git_answer_from (entries self.now.history) name.now email.now }
     {
@@ -96,7 +96,7 @@ impl<'p, 'a> Effective<'p, 'a> {
     // What the effective entries say of an email and of its key without a name.
     #[tactic(auto, using(crate::proofs::Redundant::none_of_key, crate::proofs::Rows::none_of_unknown_email))]
     fn summary(&self, email: &[u8]) -> Summary<'p, 'a>
-        ensures said { said_of result ≡ said self.now.kept (email_key (folded email.now)) }
+        ensures summary { summary_of result ≡ summary_for self.now.kept (email_key (folded email.now)) }
         ensures effective { AreEffective self.now.history self.now.kept }
     {
         let Some(number) = find(&self.keys, &Key::new(email, None)) else {
@@ -111,7 +111,7 @@ impl<'p, 'a> Effective<'p, 'a> {
         }
     }
 
-    // Does what `origins` does. It is apart so that the clauses of that on all entries are proved from these two.
+    // Does what `origins` does. It is apart so that the clauses of `origins` about all entries follow from these two.
     fn find_origins(&self, name: &[u8], email: &[u8]) -> Origins<'p, 'a>
         ensures origins { origins_of result ≡ spec_origins self.now.kept name.now email.now }
         ensures effective { AreEffective self.now.history self.now.kept }
@@ -136,8 +136,8 @@ fn last_or_all<'p, 'a>(
     last: Option<&'p LocatedEntry<'a>>,
     others: KeySummary<'p, 'a>,
 ) -> KeySummary<'p, 'a>
-    ensures { (xs : List LocatedMapping) → key_origins_of others.entry ≡ key_origins xs
-        → key_origins_of result ≡ key_origins (spec_last_or_all (referred last.entry) xs) }
+    ensures { (xs : List LocatedMapping) → key_summary_of others.entry ≡ key_summary xs
+        → key_summary_of result ≡ key_summary (spec_last_or_all (referred last.entry) xs) }
 {
     match last {
         Some(located) => KeySummary::of(located),
@@ -184,7 +184,7 @@ fn number_and_pass<'p, 'a>(
     ensures numbered { IfOk result (λ made. All (IsNumbered made.0.items) made.1.items) }
     ensures passed { IfOk result (λ made. IsPass [] (map located_of entries.now) (located_mappings made.1.items)) }
 {
-    let keys = number(alloc, entries, rows)?;
+    let keys = number_entries(alloc, entries, rows)?;
     let kept = drop_redundant_once(alloc, &keys, rows)?;
     Ok((keys, kept))
 }

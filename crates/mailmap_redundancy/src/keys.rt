@@ -3,17 +3,16 @@
 //! number, too.
 ghost use Rattle.std.specs.Prelude.{◌≡◌, ℕ, All, Contains, IfNone, IfOk, IfSome, OnOk, Some, map, true};
 ghost use Rattle.std.specs.List.Sorted.{IsStrictlySortedBy};
-ghost use Rattle.std.specs.Option.{option_cmp, option_copied, option_map};
+ghost use Rattle.std.specs.Option.{option_copied, option_map};
 ghost use Rattle.mailmap_entries.specs.Entries.{mapping_of};
-ghost use Rattle.mailmap_entries.specs.Folding.{folded, text_cmp};
+ghost use Rattle.mailmap_entries.specs.Folding.{folded};
 ghost use Rattle.mailmap_entries.specs.Semantics.{Key as SpecKey, key, key_cmp, is_accepted};
 ghost use Rattle.mailmap_redundancy.specs.Redundancy.{located_of};
-ghost use Rattle.mailmap_redundancy.specs.Numbers.{AreAscending, IsNumber, IsNumbered, IsPushed, IsNotBelowLast, last_key, located_mappings};
+ghost use Rattle.mailmap_redundancy.specs.Summaries.{AreAscending, IsNumber, IsNumbered, IsPushed, IsNotBelowLast, last_key, located_mappings};
 
 use crate::located::LocatedEntry;
-use mailmap_batches::batch::sorted;
+use mailmap_batches::batch::{compare_names, sorted};
 use mailmap_entries::Entry;
-use mailmap_entries::fold::cmp_ignore_ascii_case;
 use mailmap_entries::fold::prefix::Prefixed;
 use std::alloc::{AllocError, Global};
 use std::cmp::Ordering;
@@ -58,18 +57,6 @@ pub(crate) fn compare(a: &Key, b: &Key) -> Ordering
     }
 }
 
-fn compare_names(a: Option<&[u8]>, b: Option<&[u8]>) -> Ordering
-    ensures { result ≡ option_cmp text_cmp (option_map folded (option_copied a.entry))
-        (option_map folded (option_copied b.entry)) }
-{
-    match (a, b) {
-        (None, None) => Ordering::Equal,
-        (None, Some(_)) => Ordering::Less,
-        (Some(_), None) => Ordering::Greater,
-        (Some(a), Some(b)) => cmp_ignore_ascii_case(a, b),
-    }
-}
-
 /// The number of a key, `None` if it isn't in `keys`.
 pub(crate) fn find(keys: &[Key<'_>], key: &Key<'_>) -> Option<usize>
     requires { IsStrictlySortedBy key_cmp keys.now }
@@ -92,7 +79,7 @@ pub(crate) struct NumberedEntry<'p, 'a> {
     pub(crate) email_number: usize,
 }
 
-/// A row for each entry, with numbers that [`number`] overwrites.
+/// A row for each entry, with numbers that [`number_entries`] overwrites.
 pub(crate) fn unnumbered<'p, 'a>(
     alloc: Global,
     entries: &'p [LocatedEntry<'a>],
@@ -112,7 +99,7 @@ pub(crate) fn unnumbered<'p, 'a>(
 
 /// The distinct keys of the entries and of their emails, in ascending order. Writes each entry's numbers into its row.
 /// The entries are sorted once, so it suffices to compare neighbours.
-pub(crate) fn number<'p, 'a>(
+pub(crate) fn number_entries<'p, 'a>(
     alloc: Global,
     entries: &'p [LocatedEntry<'a>],
     rows: &mut [NumberedEntry<'p, 'a>],

@@ -2,7 +2,7 @@
 ghost use Rattle.std.specs.Prelude.{◌≡◌};
 ghost use Rattle.std.specs.Option.{option_and_then, option_copied, option_map};
 ghost use Rattle.mailmap_entries.specs.Entries.{mapping_of};
-ghost use Rattle.mailmap_redundancy.specs.Numbers.{referred};
+ghost use Rattle.mailmap_redundancy.specs.Summaries.{referred};
 
 use mailmap_batches::indexed::HasEntry;
 use mailmap_entries::Entry;
@@ -27,7 +27,7 @@ pub struct LocatedEntry<'a> {
 }
 
 impl<'a> HasEntry<'a> for LocatedEntry<'a> {
-    ghost mapped = { λ x. mapping_of x.entry };
+    ghost mapping = { λ x. mapping_of x.entry };
 
     #[inline(always)]
     fn entry(&self) -> &Entry<'a> {

@@ -1,9 +1,9 @@
 //! The entries behind the answer to a name and an email, and what they map them to.
 ghost use Rattle.std.specs.Prelude.{◌≡◌};
 ghost use Rattle.std.specs.Option.{option_and_then, option_copied, option_map};
-ghost use Rattle.mailmap_entries.specs.Semantics as answers;
+ghost use Rattle.mailmap_entries.specs.Semantics as semantics;
 ghost use Rattle.mailmap_redundancy.specs.Origins as spec;
-ghost use Rattle.mailmap_redundancy.specs.Numbers.{fields_of, origins_of, referred};
+ghost use Rattle.mailmap_redundancy.specs.Summaries.{fields_of, origins_of, referred};
 
 use crate::located::{LocatedEntry, new_email, new_name, old_email};
 
@@ -44,7 +44,7 @@ impl<'p, 'a> Origins<'p, 'a> {
 }
 
 fn unless_empty<'a>(name: Option<&'a [u8]>, email: Option<&'a [u8]>) -> Option<Fields<'a>>
-    ensures { option_map fields_of result ≡ answers.unless_empty (record {
+    ensures { option_map fields_of result ≡ semantics.unless_empty (record {
       name = option_copied name.entry;
       email = option_copied email.entry;
     }) }
@@ -59,7 +59,7 @@ fn unless_empty<'a>(name: Option<&'a [u8]>, email: Option<&'a [u8]>) -> Option<F
 #[tactic(auto, using(crate::proofs::Giving::equal_texts))]
 fn respelling<'a>(origin: Option<&LocatedEntry<'a>>, email: &[u8]) -> Option<&'a [u8]>
     ensures { option_copied result
-        ≡ option_and_then (λ x. answers.respelled x.entry.old_email email.now) (referred origin.entry) }
+        ≡ option_and_then (λ x. semantics.respelled x.entry.old_email email.now) (referred origin.entry) }
 {
     let stored = old_email(origin)?;
     if stored == email { None } else { Some(stored) }

@@ -3,7 +3,7 @@ ghost use Rattle.std.specs.Prelude.{◌≡◌, All, [], IfOk, map};
 ghost use Rattle.std.specs.List.Sorted.{IsStrictlySortedBy};
 ghost use Rattle.mailmap_entries.specs.Semantics.{key_cmp};
 ghost use Rattle.mailmap_redundancy.specs.Redundancy.{IsPass, AreEffective, located_of};
-ghost use Rattle.mailmap_redundancy.specs.Numbers.{IsNumbered, is_redundant_by, keeps_new_fields, keeps_spellings, later_of, later_of_each, located_mappings, said_of, value_of};
+ghost use Rattle.mailmap_redundancy.specs.Summaries.{IsNumbered, is_redundant, keeps_new_fields, keeps_spellings, later_of, later_of_each, located_mappings, summary_of, value_of};
 
 use crate::keys::{Key, NumberedEntry};
 use crate::located::LocatedEntry;
@@ -75,7 +75,7 @@ pub(crate) struct Later {
 impl Later {
     // From the summary of the entries after this one.
     fn of(located: &LocatedEntry<'_>, after: Summary<'_, '_>) -> Later
-        ensures { result ≡ later_of (located_of located.now) (said_of after.entry) }
+        ensures { result ≡ later_of (located_of located.now) (summary_of after.entry) }
     {
         let is_named = located.entry.old_name().is_some();
         let (name, email) = after.of_key.origins(is_named);
@@ -101,7 +101,7 @@ impl Later {
     // Whether an earlier entry spells the old name and the email, or the next one spells them alike.
     #[tactic(auto, using(crate::proofs::Redundant::has_referred))]
     fn keeps_spellings(self, before: Summary<'_, '_>) -> bool
-        ensures { result ≡ keeps_spellings self (said_of before.entry) }
+        ensures { result ≡ keeps_spellings self (summary_of before.entry) }
     {
         (before.of_key.first.is_some() || self.same_old_name)
             && (before.of_email.first.is_some() || self.same_old_email)
@@ -135,7 +135,7 @@ fn each_later(
 // and nothing else of this entry reaches other keys.
 #[tactic(auto, using(crate::proofs::Redundant::has_referred))]
 fn is_redundant(before: Summary<'_, '_>, located: &LocatedEntry<'_>, later: Later) -> bool
-    ensures { result ≡ is_redundant_by (said_of before.entry) (located_of located.now) later }
+    ensures { result ≡ is_redundant (summary_of before.entry) (located_of located.now) later }
 {
     let is_named = located.entry.old_name().is_some();
     let without = before.value(is_named);

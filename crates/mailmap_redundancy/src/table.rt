@@ -3,7 +3,7 @@ ghost use Rattle.std.specs.Prelude.{◌≡◌, ◌<◌, ◌++◌, All, [], ◌�
 ghost use Rattle.std.specs.List.Sorted.{IsStrictlySortedBy};
 ghost use Rattle.mailmap_entries.specs.Semantics.{Key as SpecKey, key, key_cmp};
 ghost use Rattle.mailmap_redundancy.specs.Redundancy.{LocatedMapping, located_of};
-ghost use Rattle.mailmap_redundancy.specs.Numbers.{IsNumbered, IsTable, IsWith, email_origin, numbered_mapping, joined_said, key_origins, key_origins_of, located_entry_of, located_mappings, name_origin, referred, said, said_of, said_of_one, value_of, value_said};
+ghost use Rattle.mailmap_redundancy.specs.Summaries.{IsNumbered, IsTable, IsWith, email_origin, numbered_mapping, joined_summary, key_summary, key_summary_of, located_mapping_of, located_mappings, name_origin, referred, summary_for, summary_of, summary_of_one, value_of, value_from};
 
 use crate::keys::{Key, NumberedEntry};
 use crate::located::{LocatedEntry, new_email, new_name, old_email, old_name};
@@ -20,7 +20,7 @@ pub(crate) struct KeySummary<'p, 'a> {
 
 impl<'p, 'a> KeySummary<'p, 'a> {
     pub(crate) fn none() -> KeySummary<'p, 'a>
-        ensures { key_origins_of result ≡ key_origins [] }
+        ensures { key_summary_of result ≡ key_summary [] }
     {
         KeySummary {
             first: None,
@@ -31,7 +31,7 @@ impl<'p, 'a> KeySummary<'p, 'a> {
     }
 
     pub(crate) fn of(located: &'p LocatedEntry<'a>) -> KeySummary<'p, 'a>
-        ensures { key_origins_of result ≡ key_origins (located_of located.now ∷ []) }
+        ensures { key_summary_of result ≡ key_summary (located_of located.now ∷ []) }
     {
         KeySummary {
             first: Some(located),
@@ -46,8 +46,8 @@ impl<'p, 'a> KeySummary<'p, 'a> {
         &self,
         is_named: bool,
     ) -> (Option<&'p LocatedEntry<'a>>, Option<&'p LocatedEntry<'a>>)
-        ensures name { referred result.0 ≡ name_origin is_named (key_origins_of self.now) }
-        ensures email { referred result.1 ≡ email_origin is_named (key_origins_of self.now) }
+        ensures name { referred result.0 ≡ name_origin is_named (key_summary_of self.now) }
+        ensures email { referred result.1 ≡ email_origin is_named (key_summary_of self.now) }
     {
         if is_named {
             (self.last, self.last)
@@ -73,7 +73,7 @@ pub(crate) struct Summary<'p, 'a> {
 
 impl<'p, 'a> Summary<'p, 'a> {
     pub(crate) fn of(located: &'p LocatedEntry<'a>) -> Summary<'p, 'a>
-        ensures { said_of result ≡ said_of_one (located_of located.now) }
+        ensures { summary_of result ≡ summary_of_one (located_of located.now) }
     {
         Summary {
             of_key: KeySummary::of(located),
@@ -86,7 +86,7 @@ impl<'p, 'a> Summary<'p, 'a> {
     /// The summary of this range followed by another.
     #[tactic(auto, using(crate::proofs::Giving::joined_options))]
     pub(crate) fn then(self, after: Summary<'p, 'a>) -> Summary<'p, 'a>
-        ensures { said_of result ≡ joined_said (said_of self.entry) (said_of after.entry) }
+        ensures { summary_of result ≡ joined_summary (summary_of self.entry) (summary_of after.entry) }
     {
         Summary {
             of_key: KeySummary {
@@ -103,7 +103,7 @@ impl<'p, 'a> Summary<'p, 'a> {
 
     /// What the range makes of its key.
     pub(crate) fn value(&self, is_named: bool) -> Value<'a>
-        ensures { value_of result ≡ value_said is_named (said_of self.now) }
+        ensures { value_of result ≡ value_from is_named (summary_of self.now) }
     {
         let (name, email) = self.of_key.origins(is_named);
         Value {
@@ -168,7 +168,7 @@ impl<'p, 'a> Table<'p, 'a> {
         requires key { x.now.key_number < vec_len self.now.key_summaries }
         requires email { x.now.email_number < vec_len self.now.email_summaries }
         ensures { (keys : List SpecKey) (xs : List LocatedMapping) → IsNumbered keys x.now → IsTable keys xs self.now
-            → said_of result ≡ said xs (key (numbered_mapping x.now)) }
+            → summary_of result ≡ summary_for xs (key (numbered_mapping x.now)) }
     {
         Summary {
             of_key: self.key_summaries[x.key_number],
@@ -182,7 +182,7 @@ impl<'p, 'a> Table<'p, 'a> {
         requires email { x.now.email_number < vec_len self.old.email_summaries }
         ensures { (keys : List SpecKey) (xs : List LocatedMapping) → IsStrictlySortedBy key_cmp keys
             → IsNumbered keys x.now → IsTable keys xs self.old
-            → IsTable keys (xs ++ located_entry_of x.now ∷ []) self.new }
+            → IsTable keys (xs ++ located_mapping_of x.now ∷ []) self.new }
     {
         let summary = self.summary(x).then(Summary::of(x.located));
         self.put(x, summary);
@@ -193,7 +193,8 @@ impl<'p, 'a> Table<'p, 'a> {
         requires key { x.now.key_number < vec_len self.old.key_summaries }
         requires email { x.now.email_number < vec_len self.old.email_summaries }
         ensures { (keys : List SpecKey) (xs : List LocatedMapping) → IsStrictlySortedBy key_cmp keys
-            → IsNumbered keys x.now → IsTable keys xs self.old → IsTable keys (located_entry_of x.now ∷ xs) self.new }
+            → IsNumbered keys x.now → IsTable keys xs self.old
+            → IsTable keys (located_mapping_of x.now ∷ xs) self.new }
     {
         let summary = Summary::of(x.located).then(self.summary(x));
         self.put(x, summary);
@@ -204,8 +205,9 @@ impl<'p, 'a> Table<'p, 'a> {
         requires key { x.now.key_number < vec_len self.old.key_summaries }
         requires email { x.now.email_number < vec_len self.old.email_summaries }
         ensures { (keys : List SpecKey) (xs ys : List LocatedMapping) → IsStrictlySortedBy key_cmp keys
-            → IsNumbered keys x.now → IsTable keys xs self.old → IsWith xs (located_entry_of x.now) ys
-            → said_of summary.entry ≡ said ys (key (numbered_mapping x.now)) → IsTable keys ys self.new }
+            → IsNumbered keys x.now → IsTable keys xs self.old → IsWith xs (located_mapping_of x.now) ys
+            → summary_of summary.entry ≡ summary_for ys (key (numbered_mapping x.now))
+            → IsTable keys ys self.new }
     {
         self.key_summaries[x.key_number] = summary.of_key;
         self.email_summaries[x.email_number] = summary.of_email;

@@ -8,7 +8,7 @@ use Rattle.mailmap_entries.specs.Folding.{Text, folded, text_cmp}
 use Rattle.mailmap_tables.specs.Groups.{EmailGroup, IsGroup, AreGroups, folded_email, folded_name, listing, name_entry, unnamed_entries, group_entries}
 use Rattle.mailmap_entries.specs.Semantics.{fields_with_spelling, answer_of, mapping_with}
 use Rattle.mailmap_tables.specs.KeySearch.{IsFound, IsMissing}
-use Rattle.mailmap_tables.specs.Pool.{NameInPool, fields_of, spelled, name_group, group_of}
+use Rattle.mailmap_tables.specs.Pool.{NameInPool, fields_of, spelled, stored_name, group_of}
 use Rattle.mailmap_tables.specs.RowTexts.{email_span, old_span}
 use Rattle.mailmap_tables.specs.declared.texts.Span.{Span}
 use Rattle.mailmap_snapshot.specs.Signatures.{name_count, is_for_email, email_count}
@@ -125,27 +125,27 @@ module _ (gs : List EmailGroup) (are : AreGroups gs) (email : Text) (i : ℕ) (f
   given : (o : Option Span) → IsSome o → Some (unwrap_or (option_map (spelled pool) o) []) ≡ option_map (spelled pool) o
   given o some = grind arith
 
-  pub names_ascend : IsStrictlySortedBy text_cmp (map folded_name (map (name_group pool) ns))
+  pub names_ascend : IsStrictlySortedBy text_cmp (map folded_name (map (stored_name pool) ns))
   names_ascend = (all_slice IsGroup gs i (group_of pool r ns) are.each read).ascending
 
   pub names_counted : name_count (listing gs) email ≡ length ns
-  names_counted = name_count-at email gs i (group_of pool r ns) are.ascending read same ∙ length-map ns (name_group pool)
+  names_counted = name_count-at email gs i (group_of pool r ns) are.ascending read same ∙ length-map ns (stored_name pool)
 
   module _ (name : Text) (j : ℕ) where
-    pub scan_at_name : (d : RowTexts) → AllByRecursion (NameInPool (length pool)) ns → j < length ns → IsFound folded_name (folded name) (map (name_group pool) ns) j
+    pub scan_at_name : (d : RowTexts) → AllByRecursion (NameInPool (length pool)) ns → j < length ns → IsFound folded_name (folded name) (map (stored_name pool) ns) j
         → answer_of (listing gs) name email ≡ fields_with_spelling email (fields_of pool (get_or ns j d)) (Some (spelled pool (old_span r)))
     scan_at_name d lie lt here =
-        let n = name_group pool (get_or ns j d) in
-        let inside : j < length (map (name_group pool) ns) = omega (arith, lt, length-map ns (name_group pool)) in
-        let at : get_or (map (name_group pool) ns) j n ≡ n = get_or-map (name_group pool) ns j d n lt in
-        let key : folded_name n ≡ folded name = found_key folded_name (folded name) (map (name_group pool) ns) j here n (sym at) in
+        let n = stored_name pool (get_or ns j d) in
+        let inside : j < length (map (stored_name pool) ns) = omega (arith, lt, length-map ns (stored_name pool)) in
+        let at : get_or (map (stored_name pool) ns) j n ≡ n = get_or-map (stored_name pool) ns j d n lt in
+        let key : folded_name n ≡ folded name = found_key folded_name (folded name) (map (stored_name pool) ns) j here n (sym at) in
         scan_name_at gs are name email i (group_of pool r ns) within (sym (get_or_from_slice_get gs i (group_of pool r ns) (group_of pool r ns) read)) same j n inside (sym at) key
         ∙ ap (λ o. fields_with_spelling email (record { name = n.new_name; email = o }) (Some (spelled pool (old_span r)))) (given (email_span (get_or ns j d)) (All-from_recursion (NameInPool (length pool)) ns lie j d lt).new_email)
 
-    pub scan_at_email : j ≤ length ns → IsMissing folded_name (folded name) (map (name_group pool) ns) j
+    pub scan_at_email : j ≤ length ns → IsMissing folded_name (folded name) (map (stored_name pool) ns) j
         → answer_of (listing gs) name email ≡ fields_with_spelling email (fields_of pool r) (Some (spelled pool (old_span r)))
     scan_at_email le none =
         scan_own_at gs are name email i (group_of pool r ns) within (sym (get_or_from_slice_get gs i (group_of pool r ns) (group_of pool r ns) read)) same
-        (none_has folded_name (folded name) (map (name_group pool) ns) j (omega (arith, le, length-map ns (name_group pool))) none)
+        (none_has folded_name (folded name) (map (stored_name pool) ns) j (omega (arith, le, length-map ns (stored_name pool))) none)
 
 pub ruleset name_laws = (names_ascend, names_counted)

@@ -13,7 +13,7 @@ use Rattle.mailmap_entries.proofs.Alike.{alike_answer}
 use Rattle.mailmap_entries.proofs.Normal.{alike_normal}
 use Rattle.mailmap_grammar.specs.LineParts.{AnswersFront, AreInOrder}
 use Rattle.mailmap_grammar.specs.Lines.{HoldsNo, contact_in}
-use Rattle.mailmap_grammar.proofs.LineParts.{ended_part, front_all, front_more, front_none, kept_part, more_answered, slices}
+use Rattle.mailmap_grammar.proofs.LineParts.{ended_part, front_all, front_more, front_none, unended_part, more_answered, slices}
 use Rattle.mailmap_snapshot.specs.Contacts.{answer, answers, contact_answer, contact_lines}
 use Rattle.answer_cache.specs.CachedLines.{CachedLine, Inserts}
 use Rattle.std.proofs.lemmas.List.Elements.{All-push, All-same, All-set}
@@ -27,49 +27,49 @@ same_answers h n d contacts =
     (λ i name email. unwrap_or (sym (alike_answer h n name email (alike_normal h n d)) i) no_fields)
 
 -- a last line without a line feed
-pub open_answers : (h : List Mapping) (kept : Text) → HoldsNo 10 kept → length kept ≢ 0
-    → answers h kept ≡ answer h kept ++ 10 ∷ []
-open_answers h kept held some =
-    ap (flat_map (λ line. answer h line ++ 10 ∷ [])) (contact_lines-open kept held (λ none. some (ap length none))) ∙ append-nil (answer h kept ++ 10 ∷ [])
+pub open_answers : (h : List Mapping) (partial : Text) → HoldsNo 10 partial → length partial ≢ 0
+    → answers h partial ≡ answer h partial ++ 10 ∷ []
+open_answers h partial held some =
+    ap (flat_map (λ line. answer h line ++ 10 ∷ [])) (contact_lines-open partial held (λ none. some (ap length none))) ∙ append-nil (answer h partial ++ 10 ∷ [])
 
-pub no_answers : (h : List Mapping) (kept : Text) → length kept ≡ 0 → answers h kept ≡ []
-no_answers h kept none = ap (answers h) (nil_from_length kept none) ∙ ap (flat_map (λ line. answer h line ++ 10 ∷ [])) contact_lines-nil
+pub no_answers : (h : List Mapping) (partial : Text) → length partial ≡ 0 → answers h partial ≡ []
+no_answers h partial none = ap (answers h) (nil_from_length partial none) ∙ ap (flat_map (λ line. answer h line ++ 10 ∷ [])) contact_lines-nil
 
 -- the answers to lines after whole lines
 pub answers-append : (m : List Mapping) → AreInOrder (answers m)
 answers-append m xs ys ends = grind (arith, contact_lines-append, flat_map-append)
 
 -- whatever the parts are, whole lines of all bytes have been answered
-front-parts : (m : List Mapping) (kept : Text) (parts : List Text) (text rest : Text)
-    → AnswersParts m kept parts text rest
-    → AnswersFront (answers m) (kept ++ flat_map (λ part. part) parts) text rest
-front-parts m kept [] text rest (none, same) = rw (none, same, append-nil kept) (front_none (answers m) (answers-append m) kept)
-front-parts m kept (part ∷ parts) text rest (made, next, later, is, first, others) =
-    rw (is, ← append_assoc kept part (flat_map (λ part. part) parts))
+front-parts : (m : List Mapping) (partial : Text) (parts : List Text) (text rest : Text)
+    → AnswersParts m partial parts text rest
+    → AnswersFront (answers m) (partial ++ flat_map (λ part. part) parts) text rest
+front-parts m partial [] text rest (none, same) = rw (none, same, append-nil partial) (front_none (answers m) (answers-append m) partial)
+front-parts m partial (part ∷ parts) text rest (made, next, later, is, first, others) =
+    rw (is, ← append_assoc partial part (flat_map (λ part. part) parts))
     (front_more (answers m) (answers-append m) (flat_map (λ part. part) parts) first (front-parts m next parts later rest others))
 
--- the answers to the parts and to the kept bytes are the answers to all bytes
-pub all-parts : (m : List Mapping) (parts : List Text) (text kept : Text) → AnswersParts m [] parts text kept
-    → text ++ answers m kept ≡ answers m (flat_map (λ part. part) parts)
-all-parts m parts text kept each = front_all (answers m) (answers-append m) (front-parts m [] parts text kept each)
+-- the answers to the parts and to the partial line are the answers to all bytes
+pub all-parts : (m : List Mapping) (parts : List Text) (text partial : Text) → AnswersParts m [] parts text partial
+    → text ++ answers m partial ≡ answers m (flat_map (λ part. part) parts)
+all-parts m parts text partial each = front_all (answers m) (answers-append m) (front-parts m [] parts text partial each)
 
 pub ruleset stream_laws = (front_none, front_more, front_all, answers-append, all-parts)
 
 -- ---- one line
 
--- a part without a line feed is kept as a whole
-pub part_kept : (m : List Mapping) (kept part before : Text) → IsFirstByte (is_byte 10) part None → HoldsNo 10 kept
-    → HasTaken m kept part before (length part) (kept ++ part) before
-part_kept m kept part before none held = record {
+-- a part without a line feed doesn't end the partial line
+pub unended_taken : (m : List Mapping) (partial part before : Text) → IsFirstByte (is_byte 10) part None → HoldsNo 10 partial
+    → HasTaken m partial part before (length part) (partial ++ part) before
+unended_taken m partial part before none held = record {
   within = omega arith;
   some = λ some. some;
-  answered = rw (take-length part) (kept_part (answers m) (answers-append m) none held (sym (append-nil before)));
+  answered = rw (take-length part) (unended_part (answers m) (answers-append m) none held (sym (append-nil before)));
 }
 
--- a line feed ends a line, and answers the kept bytes with it
-pub line_ended : (m : List Mapping) (kept part before : Text) (feed : ℕ) → IsFirstByte (is_byte 10) part (Some feed)
-    → HasTaken m kept part before (length (take (feed + 1) part)) [] (before ++ answers m (kept ++ take (feed + 1) part))
-line_ended m kept part before feed first =
+-- a line feed ends a line, and answers the partial line with it
+pub line_ended : (m : List Mapping) (partial part before : Text) (feed : ℕ) → IsFirstByte (is_byte 10) part (Some feed)
+    → HasTaken m partial part before (length (take (feed + 1) part)) [] (before ++ answers m (partial ++ take (feed + 1) part))
+line_ended m partial part before feed first =
     let long : length (take (feed + 1) part) ≡ feed + 1 = length-take-le (feed + 1) part (omega (arith, first.0.high)) in
     rw long (record {
       within = omega (arith, first.0.high);
@@ -78,9 +78,9 @@ line_ended m kept part before feed first =
     })
 
 -- one more line, from the rest of the part
-pub next : {m : List Mapping} {kept part before left between last after : Text} (taken count : ℕ)
-    → HasTaken m kept part before taken left between → taken < length part
-    → HasTaken m left (take (length part - taken) (drop taken part)) between count last after → HasTaken m kept part before (taken + count) last after
+pub next : {m : List Mapping} {partial part before left between last after : Text} (taken count : ℕ)
+    → HasTaken m partial part before taken left between → taken < length part
+    → HasTaken m left (take (length part - taken) (drop taken part)) between count last after → HasTaken m partial part before (taken + count) last after
 next {m} {part = part} {before} taken count h more k =
     let size = ap length (take_rest part taken) ∙ length-drop taken part in
     record {

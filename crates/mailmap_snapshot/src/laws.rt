@@ -51,12 +51,14 @@ pub fn law_lines()
 #[tactic(auto, using(crate::proofs::Streams::stream_laws))]
 pub fn law_stream()
     ensures begins { (m : List Mapping) (bytes : Text) → AnswersFront (answers m) bytes [] bytes }
-    ensures adds_up { (m : List Mapping) (before text kept taken made rest : Text) → AnswersFront (answers m) before text kept
-        → AnswersFront (answers m) (kept ++ taken) made rest → AnswersFront (answers m) (before ++ taken) (text ++ made) rest }
-    ensures ends { (m : List Mapping) (all text kept : Text) → AnswersFront (answers m) all text kept
-        → text ++ answers m kept ≡ answers m all }
-    ensures parts { (m : List Mapping) (parts : List Text) (text kept : Text) → AnswersParts m [] parts text kept
-        → text ++ answers m kept ≡ answers m (flat_map (λ part. part) parts) }
+    ensures adds_up { (m : List Mapping) (before text partial taken made rest : Text)
+        → AnswersFront (answers m) before text partial → AnswersFront (answers m) (partial ++ taken) made rest
+        → AnswersFront (answers m) (before ++ taken) (text ++ made) rest }
+    ensures ends { (m : List Mapping) (all text partial : Text) → AnswersFront (answers m) all text partial
+        → text ++ answers m partial ≡ answers m all }
+    ensures parts { (m : List Mapping) (parts : List Text) (text partial : Text)
+        → AnswersParts m [] parts text partial
+        → text ++ answers m partial ≡ answers m (flat_map (λ part. part) parts) }
 {}
 
 /// Parsing the text of a normal list, which [`Snapshot::write`](crate::snapshot::Snapshot::write()) writes, gives the

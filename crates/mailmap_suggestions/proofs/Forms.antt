@@ -301,10 +301,6 @@ module _ (h : Histories) (to : Contact) (whole : List Mapping) (ts : List TheTal
 
 -- ==== the entry without an old name that contacts need
 
-pub plain_nobody : (h : Histories) (to : Contact) (ts : List TheTally) → None ≡ slice_get ts 0 → plain_entries h to (contacts_of ts) ≡ []
-plain_nobody h to [] none = refl
-plain_nobody h to (t ∷ ts) none = absurd (cc)
-
 first_email : (email : Text) (ts : List TheTally) (first : TheTally) → Some first ≡ slice_get ts 0 → HaveEmail email (contacts_of ts) → folded first.email.now ≡ email
 first_email email [] first is all = absurd (cc)
 first_email email (t ∷ ts) first is all = cc

@@ -291,18 +291,18 @@ entry_read n e w accepted = (as_line line_reading n e accepted ∙ reading-canon
 -- ---- texts of whole lines
 
 -- the mappings of a text whose first line has this number
-abbrev said : ℕ → Text → List Mapping
-said n s = mappings_in (readings_from reading n (pieces s))
+abbrev mappings_from : ℕ → Text → List Mapping
+mappings_from n s = mappings_in (readings_from reading n (pieces s))
 
 -- a text says these entries, whatever comes after it
 abbrev Says : Text → List Mapping → Type 0
-Says s es = (n : ℕ) (rest : Text) → (m : ℕ) × (said n (s ++ rest) ≡ es ++ said m rest)
+Says s es = (n : ℕ) (rest : Text) → (m : ℕ) × (mappings_from n (s ++ rest) ≡ es ++ mappings_from m rest)
 
 both_said : (s t : Text) (es fs : List Mapping) → Says s es → Says t fs → Says (s ++ t) (es ++ fs)
 both_said s t es fs first second n rest =
     let a = first n (t ++ rest) in
     let b = second a.0 rest in
-    (b.0, ap (said n) (append_assoc s t rest) ∙ a.1 ∙ ap (λ l. es ++ l) b.1 ∙ sym (append_assoc es fs (said b.0 rest)))
+    (b.0, ap (mappings_from n) (append_assoc s t rest) ∙ a.1 ∙ ap (λ l. es ++ l) b.1 ∙ sym (append_assoc es fs (mappings_from b.0 rest)))
 
 -- what marked lines say is nothing
 abbrev unless_marked : Bool → List Mapping → List Mapping
@@ -330,17 +330,17 @@ line_said : (l : Text) (es : List Mapping) → HoldsNo 10 l → ((n : ℕ) → o
 unfolding readings_from
 line_said l es one says n rest = (
   n + 1,
-  ap (said n) (append_assoc l (10 ∷ []) rest)
+  ap (mappings_from n) (append_assoc l (10 ∷ []) rest)
       ∙ ap (λ ps. mappings_in (readings_from reading n ps)) (pieces-line l rest one)
       ∙ with_reading (reading n l) (readings_from reading (n + 1) (pieces rest))
-      ∙ ap (λ fs. fs ++ said (n + 1) rest) (says n),
+      ∙ ap (λ fs. fs ++ mappings_from (n + 1) rest) (says n),
 )
 
 pub says_whole : (s : Text) (es : List Mapping) → Says s es → mappings_of s ≡ es
 unfolding pieces readings_from mappings_in
 says_whole s es says =
     let a = says 1 [] in
-    ap (said 1) (sym (append-nil s)) ∙ a.1 ∙ append-nil es
+    ap (mappings_from 1) (sym (append-nil s)) ∙ a.1 ∙ append-nil es
 
 -- ---- what is in a line
 

@@ -18,7 +18,7 @@ use Rattle.std.specs.Option.{option_copied, option_to_list}
 use Rattle.mailmap_entries.specs.Entries.{Mapping, mapping_of}
 use Rattle.mailmap_entries.specs.Semantics.{Fields, given_fields, is_accepted, key, last_fields, no_fields, spelling}
 use Rattle.mailmap_entries.specs.declared.entry.Entry.{Entry}
-use Rattle.mailmap_redundancy.specs.Numbers.{fields_of}
+use Rattle.mailmap_redundancy.specs.Summaries.{fields_of}
 use Rattle.mailmap_suggestions.specs.declared.changes.Changes.{Changes}
 
 abbrev pub shared_by : Shared → Contact → Text
@@ -104,17 +104,19 @@ pub record AreChangesBy (to : Contact) (email : Text) (added : List Mapping) (a 
 
 -- ---- answers after them
 
--- the answer to a contact, by that before, whether the contact had an entry of its own, and whether its email keeps the
--- spelling of that answer
+-- The answer to a contact: it depends on the answer before, on whether the contact had an entry of its own, and on
+-- whether its email keeps the spelling of that answer.
 abbrev pub after : Changes → Contact → TheTally → Contact → Bool → Bool → Contact
 after a to t before has_own is_spelled =
     let spelling = if is_spelled then None else option_copied a.spelling in
     if contains folded_cmp a.names (record { text = t.name }) then replaced (fields_to to) (tally_of t).contact
-    else (if has_own then before else replaced (given_in a) (record { name = before.name; email = unwrap_or spelling before.email }))
+    else if has_own then before
+    else replaced (given_in a) (record { name = before.name; email = unwrap_or spelling before.email })
 
 -- whether this library and git both answer a contact by `to` then
 unfoldable pub are_enough : Changes → Histories → Contact → TheTally → Bool
 are_enough a h to t =
     let c = (tally_of t).contact in
-    same_contact (after a to t (answer_to h.ours c) (is_some (last_fields h.ours (own_key c))) (is_some (spelling h.ours (folded c.email)))) to
+    same_contact (after a to t (answer_to h.ours c) (is_some (last_fields h.ours (own_key c)))
+    (is_some (spelling h.ours (folded c.email)))) to
     && same_contact (after a to t (git_answer_to h.gits c) (is_some (last_fields h.gits (own_key c))) true) to

@@ -4,7 +4,7 @@ ghost use Rattle.std.specs.List.{list_all};
 ghost use Rattle.std.specs.Option.{option_map};
 ghost use Rattle.mailmap_entries.specs.Folding.{Text, folded};
 ghost use Rattle.mailmap_entries.specs.Semantics.{last_fields, no_fields, spelling};
-ghost use Rattle.mailmap_redundancy.specs.Numbers.{fields_of};
+ghost use Rattle.mailmap_redundancy.specs.Summaries.{fields_of};
 ghost use Rattle.mailmap_contacts.specs.Answers.{tally_of};
 ghost use Rattle.mailmap_contacts.specs.Contacts.{answered, contacts_from, tallied};
 ghost use Rattle.mailmap_contacts.specs.Counts.{AreContactsOf};

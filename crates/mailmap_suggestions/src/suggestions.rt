@@ -56,11 +56,18 @@ pub fn suggest<'a>(
     let mut histories = Histories::read(alloc, buffers)?;
     let contacts = contacts.in_order(alloc)?;
     let contacts = contacts.as_slice();
-    let mut all = Vec::new(alloc);
-    push_suggestions(alloc, Shared::Email, false, &histories, contacts, &mut all)?;
-    add_entries(&mut histories, &all)?;
-    push_suggestions(alloc, Shared::Name, true, &histories, contacts, &mut all)?;
-    Ok(all)
+    let mut found = Vec::new(alloc);
+    push_suggestions(
+        alloc,
+        Shared::Email,
+        false,
+        &histories,
+        contacts,
+        &mut found,
+    )?;
+    add_entries(&mut histories, &found)?;
+    push_suggestions(alloc, Shared::Name, true, &histories, contacts, &mut found)?;
+    Ok(found)
 }
 
 // Appends what is suggested for the contacts whose answers share an email or a name.

@@ -16,12 +16,12 @@ use Rattle.mailmap_entries.specs.Entries.{Mapping}
 use Rattle.mailmap_entries.specs.Folding.{Text, text_cmp}
 use Rattle.mailmap_entries.specs.Semantics.{Key, is_accepted, key, key_cmp, of_key, spelling}
 use Rattle.mailmap_entries.proofs.Parts.{all_append, all_head, all_map, all_mapped, all_tail, all_weaker, map_alike}
-use Rattle.mailmap_batches.specs.Batches.{IsAscending, IsSorted, email_at as by, email_text, indexed_mapping, mapping_at}
+use Rattle.mailmap_batches.specs.Batches.{IsWeaklySortedBy, IsSorted, folded_email_at as by, folded_email_of, indexed_mapping, mapping_at}
 use Rattle.mailmap_batches.specs.declared.indexed.IndexedEntry.{IndexedEntry}
 use Rattle.mailmap_batches.proofs.Numbered.{mapped_twice, numbered}
 use Rattle.mailmap_batches.proofs.Respelled.{alike_respelled, least_spells, respelled}
 use Rattle.mailmap_tables.specs.Groups.{EmailGroup, listing}
-use Rattle.mailmap_tables.specs.Put.{AreAccepted, Represent, with_email}
+use Rattle.mailmap_tables.specs.Put.{AreAccepted, Represent, with_old_email}
 use Rattle.mailmap_tables.proofs.Grouped.{apart_less, no_groups}
 use Rattle.mailmap_tables.proofs.Merged.{none_put, put_alike, put_more}
 
@@ -39,7 +39,7 @@ above_other : (f x y : Text) → text_cmp f x ≡ Less → is_lt (text_cmp y x) 
 above_other f x y less not_below same = grind arith
 
 others_after : (f : Text) (xs : List IndexedEntry) (n : ℕ) → AllByRecursion (λ x. is_lt (text_cmp (by x) f) ≡ false) xs
-    → IsAscending text_cmp (map by xs) → (n < length xs → HoldsAt (λ p. by p ≢ f) xs n)
+    → IsWeaklySortedBy text_cmp (map by xs) → (n < length xs → HoldsAt (λ p. by p ≢ f) xs n)
     → AllByRecursion (λ q. f ≢ by q) (drop n xs)
 others_after f [] zero low up other = tt
 others_after f [] (suc n) low up other = tt
@@ -51,8 +51,8 @@ others_after f (x ∷ xs) zero low up other =
           up.0),
     )
 
-ascending_drop : (n : ℕ) (xs : List IndexedEntry) → IsAscending text_cmp (map by xs)
-    → IsAscending text_cmp (map by (drop n xs))
+ascending_drop : (n : ℕ) (xs : List IndexedEntry) → IsWeaklySortedBy text_cmp (map by xs)
+    → IsWeaklySortedBy text_cmp (map by (drop n xs))
 ascending_drop zero xs up = up
 ascending_drop (suc n) [] up = up
 ascending_drop (suc n) (x ∷ xs) up = ascending_drop n xs up.1
@@ -70,17 +70,17 @@ respelled_at xs p = respelled xs (mapping_at p)
 pub record AreBuilt (xs : List Mapping) (batch left : List IndexedEntry) (gs : List EmailGroup) : Type 0 where
   pub passed : List IndexedEntry
   pub whole : batch ≡ passed ++ left
-  pub ascending : IsAscending text_cmp (map by left)
+  pub ascending : IsWeaklySortedBy text_cmp (map by left)
   pub apart : AllByRecursion (λ p. AllByRecursion (λ q. by p ≢ by q) left) passed
   pub accepted : AllByRecursion IsGood left
   pub put : Represent (map (respelled_at xs) passed) gs
 
 not_lt_emails : (a b : Mapping) → is_lt (key_cmp (key a) (key b)) ≡ false
-    → is_lt (text_cmp (email_text a) (email_text b)) ≡ false
+    → is_lt (text_cmp (folded_email_of a) (folded_email_of b)) ≡ false
 not_lt_emails a b e = grind (arith, common_steps)
 
-emails_ascend : (xs : List IndexedEntry) → IsAscending key_cmp (map (λ p. key p.1) (map indexed_mapping xs))
-    → IsAscending text_cmp (map by xs)
+emails_ascend : (xs : List IndexedEntry) → IsWeaklySortedBy key_cmp (map (λ p. key p.1) (map indexed_mapping xs))
+    → IsWeaklySortedBy text_cmp (map by xs)
 emails_ascend [] up = tt
 emails_ascend (x ∷ xs) up = (
   all_mapped by _ xs (all_weaker xs (λ y. not_lt_emails (mapping_at y) (mapping_at x))
@@ -97,7 +97,7 @@ group_good {left = left} n st = All-from_recursion IsGood (take n left) (all_hea
 -- the entries for an email, spelled as in the earliest of them
 respelled_group : (xs : List Mapping) (e : IndexedEntry) → spelling xs (by e) ≡ Some (mapping_at e).old_email
     → (group : List IndexedEntry) → AllByRecursion (λ p. by p ≡ by e) group
-    → map (λ p. with_email (mapping_at e).old_email (mapping_at p)) group ≡ map (respelled_at xs) group
+    → map (λ p. with_old_email (mapping_at e).old_email (mapping_at p)) group ≡ map (respelled_at xs) group
 respelled_group xs e is group same =
     map_alike _ _ group (all_weaker group (λ p at. grind (arith, common_steps)) same)
 
@@ -111,7 +111,7 @@ module _ {xs : List Mapping} {batch : List IndexedEntry} (good : AreAccepted xs)
     apart = tt;
     accepted = all_map indexed_mapping (λ p. is_accepted p.1 ≡ true) batch (recursion_from_All _ _
         (All-permutation (λ p. is_accepted p.1 ≡ true) (enumerate_from 0 xs) (map indexed_mapping batch)
-        sorted.keeps.moved (All-from_recursion _ _ (all_map (λ p. p.1) (λ m. is_accepted m ≡ true) (enumerate_from 0 xs)
+        sorted.moved (All-from_recursion _ _ (all_map (λ p. p.1) (λ m. is_accepted m ≡ true) (enumerate_from 0 xs)
         (subst AreAccepted (sym (numbered 0 xs)) good)))));
     put = none_put no_groups;
   }
@@ -121,7 +121,7 @@ module _ {xs : List Mapping} {batch : List IndexedEntry} (good : AreAccepted xs)
       → ((d : IndexedEntry) → All (λ p. by p ≡ by (get_or left 0 d)) (take n left))
       → ((d : IndexedEntry) → n < length left → by (get_or left n d) ≢ by (get_or left 0 d))
       → Contains (take n left) e → All (λ (q : IndexedEntry). e.index ≤ q.index) (take n left)
-      → Represent (listing gs ++ map (λ p. with_email (mapping_at e).old_email (mapping_at p)) (take n left)) hs
+      → Represent (listing gs ++ map (λ p. with_old_email (mapping_at e).old_email (mapping_at p)) (take n left)) hs
       → AreBuilt xs batch (drop n left) hs
   built_step {left = []} n e st some same other among first done = absurd (omega arith)
   built_step {left = x ∷ left} {gs = gs} {hs = hs} n e st some same other among first done =
@@ -139,10 +139,10 @@ module _ {xs : List Mapping} {batch : List IndexedEntry} (good : AreAccepted xs)
       (all_append _ group rest (all_weaker group (λ q le _. le)
       (recursion_from_All (λ q. e.index ≤ q.index) group first))
       (all_weaker rest (λ q no is. absurd (no (sym (is ∙ email)))) after))) in
-      let spells = least_spells xs (map indexed_mapping batch) (indexed_mapping e) good sorted.keeps.moved
+      let spells = least_spells xs (map indexed_mapping batch) (indexed_mapping e) good sorted.moved
       (contains_mapped indexed_mapping batch e (rw whole (Contains-append_right st.passed _ _
       (Contains-append_left group _ _ among))))
-      (All-from_recursion _ _ (all_mapped indexed_mapping (λ q. email_text q.1 ≡ by e → e.index ≤ q.0) batch least)) in
+      (All-from_recursion _ _ (all_mapped indexed_mapping (λ q. folded_email_of q.1 ≡ by e → e.index ≤ q.0) batch least)) in
       let spelt = respelled_group xs e spells group (all_weaker group (λ p is. is ∙ sym email) one) in
       record {
         passed = st.passed ++ group;
@@ -158,7 +158,7 @@ module _ {xs : List Mapping} {batch : List IndexedEntry} (good : AreAccepted xs)
   pub built_end : {gs : List EmailGroup} → AreBuilt xs batch [] gs → Represent xs gs
   built_end {gs} st =
       let us = map mapping_at batch in
-      let keyed : (k : Key) → of_key xs k ≡ of_key us k = λ k. sorted.keeps.keyed k
+      let keyed : (k : Key) → of_key xs k ≡ of_key us k = λ k. sorted.keyed k
       ∙ ap (λ l. of_key l k) (mapped_twice indexed_mapping (λ p. p.1) batch) in
       let all : map (respelled_at xs) st.passed ≡ map (respelled xs) us =
       ap (map (respelled_at xs)) (sym (st.whole ∙ append-nil st.passed))

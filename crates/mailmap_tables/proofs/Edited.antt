@@ -14,8 +14,8 @@ use Rattle.mailmap_entries.specs.Folding.{Text, folded}
 use Rattle.mailmap_entries.specs.Prefixes.{key_prefix}
 use Rattle.mailmap_tables.specs.Groups.{Contents, EmailGroup, listing, name_total, unnamed_entries}
 use Rattle.mailmap_tables.specs.KeySearch.{found_in, placed}
-use Rattle.mailmap_tables.specs.Pool.{AreTables, RowInPool, contents, name_group, prefix_of, row_group, row_of, rows_of, spelled}
-use Rattle.mailmap_tables.specs.Pool.{with_email_at}
+use Rattle.mailmap_tables.specs.Pool.{AreTables, RowInPool, contents, stored_name, prefix_of, row_group, row_of, rows_of, spelled}
+use Rattle.mailmap_tables.specs.Pool.{with_group_at}
 use Rattle.mailmap_tables.specs.RowTexts.{old_span}
 use Rattle.mailmap_tables.specs.declared.rows.EmailRow.{EmailRow}
 use Rattle.mailmap_tables.proofs.KeySearch.{all_placed, map-placed}
@@ -61,7 +61,7 @@ module _ {pool : Text} (es : List EmailRow) {prefixes : List ℕ} {count : ℕ} 
           total-placed gs r g (rw (← is) at within),
           h.counted,
           (rw (← is) at names),
-          length-map f.names.items (name_group pool),
+          length-map f.names.items (stored_name pool),
         ));
         few = few;
       }
@@ -106,9 +106,9 @@ module _ {pool : Text} (es : List EmailRow) {prefixes : List ℕ} {count : ℕ}
   -- an edit of the row
   pub edited : (edit : EmailGroup → EmailGroup) (f : EmailRow)
       → row_group v.pool (row_of f) ≡ edit (row_group v.pool (row_of e))
-      → ForSome (slice_get v.groups i) (λ g. contents pool (rows_of (set es i f)) ≡ with_email_at v i (edit g))
+      → ForSome (slice_get v.groups i) (λ g. contents pool (rows_of (set es i f)) ≡ with_group_at v i (edit g))
   edited edit f does g at = contents-placed es h is (Ok i) f
-      ∙ ap (with_email_at v i) (does ∙ ap edit (let seen = group_seen in cc))
+      ∙ ap (with_group_at v i) (does ∙ ap edit (let seen = group_seen in cc))
 
   pub tables-set : (f : EmailRow) → RowInPool pool (row_of f)
       → spelled pool (old_span f.texts) ≡ spelled pool (old_span e.texts) → (n : ℕ)
@@ -118,7 +118,7 @@ module _ {pool : Text} (es : List EmailRow) {prefixes : List ℕ} {count : ℕ}
       let prefix : prefix_of (row_group pool (row_of f)) ≡ get_or prefixes i 0 =
       ap (λ t. key_prefix 16 (folded t)) same ∙ sym (rw (← is) at (prefix_seen 0)) in
       tables-placed es h is (Ok i) f lies lt prefixes (sym (ap (set prefixes i) prefix ∙ set-get_or prefixes i 0)) n
-      (rw group_seen (omega (arith, names, length-map e.names.items (name_group v.pool)))) few
+      (rw group_seen (omega (arith, names, length-map e.names.items (stored_name v.pool)))) few
 
   -- a row with the same texts in its place
   pub rows_same : (f : EmailRow) → row_of f ≡ row_of e → rows_of (set es i f) ≡ rows_of es

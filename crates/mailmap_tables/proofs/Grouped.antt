@@ -16,7 +16,7 @@ use Rattle.std.proofs.lemmas.List.Elements.{All-from_recursion, filter-append, f
 use Rattle.std.proofs.lemmas.Map.Keys.{sorted_head, sorted_tail}
 use Rattle.mailmap_entries.specs.Entries.{Mapping}
 use Rattle.mailmap_entries.specs.Folding.{Text, folded, text_cmp}
-use Rattle.mailmap_tables.specs.Groups.{AreGroups, Contents, EmailGroup, IsGroup, NameGroup, folded_email, listing}
+use Rattle.mailmap_tables.specs.Groups.{AreGroups, Contents, EmailGroup, IsGroup, StoredName, folded_email, listing}
 use Rattle.mailmap_tables.specs.Groups.{name_fields, folded_name, name_entry, unnamed_entries, group_entries}
 use Rattle.mailmap_entries.specs.Building.{IsListing, IsPaired}
 use Rattle.mailmap_entries.specs.Semantics.{Fields, key, key_cmp, first, last, last_given, is_accepted, accepted}
@@ -43,7 +43,7 @@ every f [] = tt
 every f (x ∷ xs) = (f x, every f xs)
 
 -- a predicate that holds for every row of a name
-pub all_rows : (P : Mapping → Type 0) (email : Text) (ns : List NameGroup) → ((n : NameGroup) → P (name_entry email n))
+pub all_rows : (P : Mapping → Type 0) (email : Text) (ns : List StoredName) → ((n : StoredName) → P (name_entry email n))
     → AllByRecursion P (map (name_entry email) ns)
 all_rows P email ns f = all_mapped (name_entry email) P ns (every f ns)
 
@@ -132,7 +132,7 @@ by_name : (email : Text) (a b : Option Text) → option_cmp text_cmp a b ≡ Les
 by_name email a b less =
     ap (λ o. ordering_then o (option_cmp text_cmp a b)) (tied_itself nat_list_cmp_total email) ∙ less
 
-names_sorted : (email : Text) (ns : List NameGroup) → IsStrictlySortedBy text_cmp (map folded_name ns)
+names_sorted : (email : Text) (ns : List StoredName) → IsStrictlySortedBy text_cmp (map folded_name ns)
     → IsStrictlySortedBy key_cmp (map key (map (name_entry email) ns))
 unfolding IsStrictlySortedBy
 names_sorted email [] s = tt
@@ -294,7 +294,7 @@ module _ (gs : List EmailGroup) (are : AreGroups gs) (name email : Text) (i : �
   only = (at_email gs are i g lt read).1
 
   -- by the names of the email that are equal to the given one
-  answer_at : (ns : List NameGroup) → filter (λ n. eq_by_cmp text_cmp (folded name) (folded_name n)) g.names ≡ ns
+  answer_at : (ns : List StoredName) → filter (λ n. eq_by_cmp text_cmp (folded name) (folded_name n)) g.names ≡ ns
       → answer_of (listing gs) name email ≡ fields_with_spelling email
       (unwrap_or (option_map new_fields (last (map (name_entry g.old_email) ns))) g.unnamed) (Some g.old_email)
   answer_at ns these =
@@ -305,7 +305,7 @@ module _ (gs : List EmailGroup) (are : AreGroups gs) (name email : Text) (i : �
       λ j. fields_with_spelling email (unwrap_or (option_map new_fields (last (keyed j))) (given j)) (spelled j)
 
   -- if the name is there
-  pub scan_name_at : (j : ℕ) (n : NameGroup) → j < length g.names → n ≡ get_or g.names j n
+  pub scan_name_at : (j : ℕ) (n : StoredName) → j < length g.names → n ≡ get_or g.names j n
       → folded n.old_name ≡ folded name
       → answer_of (listing gs) name email ≡ fields_with_spelling email (name_fields n) (Some g.old_email)
   scan_name_at j n lt_name read_name same_name =

@@ -19,7 +19,7 @@ use Rattle.std.proofs.lemmas.Option.{get_or_from_slice_get, slice_get-get_or, sl
 use Rattle.mailmap_entries.specs.Folding.{Text, text_cmp}
 use Rattle.mailmap_entries.proofs.Lookups.{found-at, missing-above, missing-below}
 use Rattle.mailmap_entries.proofs.Parts.{all_weaker}
-use Rattle.mailmap_tables.specs.KeySearch.{IsFound, IsMissing, IsPlace, found_in, index_of, placed}
+use Rattle.mailmap_tables.specs.KeySearch.{IsFound, IsMissing, IsPlace, found_in, placed}
 
 -- what is read at an index
 pub ruleset reads = (common_steps, slice_get-map, slice_get-get_or, slice_get_within)
@@ -45,6 +45,11 @@ pub length-placed : {X : Type 0} (xs : List X) (r : Result ℕ ℕ) (x : X) → 
     → length (placed xs r x) ≡ length xs + from_bool (is_err r)
 length-placed xs (Ok i) x lt = omega (arith, length-set xs i x)
 length-placed xs (Err i) x le = length-insert xs i x le
+
+-- the index of a place, whether something is there or not
+abbrev pub index_of : Result ℕ ℕ → ℕ
+index_of (Ok i) = i
+index_of (Err i) = i
 
 -- the elements after a place
 abbrev pub after : {X : Type 0} → List X → Result ℕ ℕ → List X

@@ -8,7 +8,7 @@ use Rattle.mailmap_entries.specs.Folding.{Text}
 use Rattle.std.specs.Option.{option_or}
 use Rattle.mailmap_entries.proofs.Alike.{Alike, alike_itself, alike_joined, alike_back, same_normal}
 use Rattle.mailmap_entries.proofs.Joined.{alike_trans}
-use Rattle.mailmap_tables.specs.Put.{AreAccepted, Represent, with_email}
+use Rattle.mailmap_tables.specs.Put.{AreAccepted, Represent, with_old_email}
 use Rattle.std.proofs.lemmas.Bool.Decides.{nat_tests}
 use Rattle.std.specs.Iterator.{Drains, Yields}
 use Rattle.mailmap_entries.specs.declared.entry.Entry.{Entry}
@@ -61,7 +61,7 @@ one_item xs x some few read = grind (arith, common_steps)
 -- what the second doesn't give, the first does
 pub both_combined : (a b c : Mapping) → AreAccepted (a ∷ b ∷ []) → a.old_name ≡ None → b.old_name ≡ None
     → c ≡ mapping (option_or b.new_name a.new_name) (option_or b.new_email a.new_email) None b.old_email
-    → (email : Text) → Alike (with_email email a ∷ with_email email b ∷ []) (with_email email c ∷ [])
+    → (email : Text) → Alike (with_old_email email a ∷ with_old_email email b ∷ []) (with_old_email email c ∷ [])
 both_combined a b c good a_none b_none is email = record {
   keys = λ k. grind (arith, common_steps);
   spellings = λ t. grind (arith, common_steps);

@@ -8,7 +8,7 @@ use Rattle.mailmap_entries.specs.Folding.{Text}
 use Rattle.mailmap_entries.proofs.Parts.{all_weaker, map_alike}
 use Rattle.mailmap_tables.specs.Groups.{Contents, name_total}
 use Rattle.mailmap_tables.specs.Pool.{AreTables, Extends, LiesIn, NameInPool, Row, RowInPool, TextsInPool, contents}
-use Rattle.mailmap_tables.specs.Pool.{fields_of, name_group, prefix_of, row_group, spelled}
+use Rattle.mailmap_tables.specs.Pool.{fields_of, stored_name, prefix_of, row_group, spelled}
 use Rattle.mailmap_tables.specs.RowTexts.{old_span}
 use Rattle.mailmap_tables.specs.declared.texts.Span.{Span}
 use Rattle.mailmap_tables.specs.declared.texts.RowTexts.{RowTexts}
@@ -27,16 +27,16 @@ module _ (a b : Text) (to : Extends a b) where
   pub fields_on : (t : RowTexts) → TextsInPool (length a) t → fields_of b t ≡ fields_of a t
   fields_on t lies = grind (arith, options_on)
 
-  name_groups_on : (rs : List RowTexts) → AllByRecursion (NameInPool (length a)) rs
-      → map (name_group b) rs ≡ map (name_group a) rs
-  name_groups_on rs all = map_alike (name_group b) (name_group a) rs
+  stored_names_on : (rs : List RowTexts) → AllByRecursion (NameInPool (length a)) rs
+      → map (stored_name b) rs ≡ map (stored_name a) rs
+  stored_names_on rs all = map_alike (stored_name b) (stored_name a) rs
       (all_weaker rs (λ r lies. cc (spelled_on (old_span r) lies.texts.old, fields_on r lies.texts)) all)
 
   groups_on : (rows : List Row) → AllByRecursion (RowInPool a) rows → map (row_group b) rows ≡ map (row_group a) rows
   groups_on rows lie = map_alike (row_group b) (row_group a) rows (all_weaker rows (λ r its. cc (
     spelled_on (old_span r.texts) its.email_lies.old,
     fields_on r.texts its.email_lies,
-    name_groups_on r.names its.names_lie,
+    stored_names_on r.names its.names_lie,
   )) lie)
 
   pub texts_lie_on : (t : RowTexts) → TextsInPool (length a) t → TextsInPool (length b) t

@@ -23,14 +23,14 @@ use Rattle.mailmap_entries.proofs.Keys.{keys_exact, keys_total}
 use Rattle.mailmap_entries.proofs.Joined.{IsApart, alike_swapped, alike_trans}
 use Rattle.mailmap_entries.proofs.Normal.{old_email_is}
 use Rattle.mailmap_entries.proofs.Parts.{all_apply, all_map, all_tail}
-use Rattle.mailmap_batches.specs.Batches.{email_text}
+use Rattle.mailmap_batches.specs.Batches.{folded_email_of}
 use Rattle.mailmap_batches.proofs.Respelled.{alike_respelled}
-use Rattle.mailmap_tables.specs.Groups.{AreGroups, EmailGroup, IsGroup, NameGroup, folded_email, listing, folded_name}
+use Rattle.mailmap_tables.specs.Groups.{AreGroups, EmailGroup, IsGroup, StoredName, folded_email, listing, folded_name}
 use Rattle.mailmap_tables.specs.Groups.{name_entry, unnamed_entries, group_entries}
-use Rattle.mailmap_tables.specs.KeySearch.{IsFound, IsMissing, IsPlace, found_in, index_of, placed}
-use Rattle.mailmap_tables.specs.Put.{IsPutInto, group_with, said, spelled_name, with_email}
+use Rattle.mailmap_tables.specs.KeySearch.{IsFound, IsMissing, IsPlace, found_in, placed}
+use Rattle.mailmap_tables.specs.Put.{IsPutInto, email_given, name_given, spelled_name, with_old_email}
 use Rattle.mailmap_tables.proofs.Grouped.{groups_normal, listing-append, spelled_there}
-use Rattle.mailmap_tables.proofs.KeySearch.{after, all_placed, found_key, found_same, new_parts, old_parts, place_within}
+use Rattle.mailmap_tables.proofs.KeySearch.{after, all_placed, found_key, found_same, index_of, new_parts, old_parts, place_within}
 use Rattle.mailmap_tables.proofs.KeySearch.{placed_found, placed_sorted}
 
 -- ---- an entry u after a list, in which v then stands for it and for the entries mid
@@ -81,17 +81,17 @@ some_or : (o : Option Text) → IsSome o → Some (unwrap_or o []) ≡ o
 some_or o s = grind arith
 
 -- the row of a name with the fields of an entry
-said_row : (m : Mapping) (old_name : Text) → m.old_name ≡ Some old_name → IsSome m.new_email → (email : Text)
-    → name_entry email (said old_name m) ≡ with_email email m
-said_row m old_name is some email = grind (arith, some_or)
+name_given_entry : (m : Mapping) (old_name : Text) → m.old_name ≡ Some old_name → IsSome m.new_email → (email : Text)
+    → name_entry email (name_given old_name m) ≡ with_old_email email m
+name_given_entry m old_name is some email = grind (arith, some_or)
 
 -- an email with one entry
 pub one_entry : (m : Mapping) (o : Option Text) → m.old_name ≡ o → is_accepted m ≡ true
-    → (IsSome o → IsSome m.new_email) → group_entries (group_with m o) ≡ m ∷ []
+    → (IsSome o → IsSome m.new_email) → group_entries (email_given m o) ≡ m ∷ []
 one_entry m None is good paired = grind arith
 one_entry m (Some name) is good paired = grind (arith, some_or, paired refl)
 
-pub one_sorted : (m : Mapping) (o : Option Text) → IsStrictlySortedBy text_cmp (map folded_name (group_with m o).names)
+pub one_sorted : (m : Mapping) (o : Option Text) → IsStrictlySortedBy text_cmp (map folded_name (email_given m o).names)
 unfolding IsStrictlySortedBy
 one_sorted m None = tt
 one_sorted m (Some name) = (tt, tt)
@@ -110,16 +110,16 @@ own_once : (g : EmailGroup) (u : Mapping) → u.old_name ≡ None → u.old_emai
     → Alike (unnamed_entries g ++ u ∷ []) (mapping_with (given_or (new_fields u) g.unnamed) None g.old_email ∷ [])
 own_once g u plain same good = grind (arith, common_steps)
 
-name_same : (name : Text) (o : Option NameGroup) → ForSome o (λ k. folded_name k ≡ folded name)
+name_same : (name : Text) (o : Option StoredName) → ForSome o (λ k. folded_name k ≡ folded name)
     → folded (unwrap_or (option_map (λ k. k.old_name) o) name) ≡ folded name
 name_same name o same = grind (arith, same)
 
 -- an entry replaces the fields of a name, or adds the name
-name_combined : (e name : Text) (m : Mapping) → m.old_name ≡ Some name → IsSome m.new_email → (o : Option NameGroup)
+name_combined : (e name : Text) (m : Mapping) → m.old_name ≡ Some name → IsSome m.new_email → (o : Option StoredName)
     → ForSome o (λ k. folded_name k ≡ folded name)
-    → Alike (map (name_entry e) (option_to_list o) ++ with_email e m ∷ [])
-    (name_entry e (said (unwrap_or (option_map (λ k. k.old_name) o) name) m) ∷ [])
-name_combined e name m is some None same = rw (said_row m name is some e) (alike_itself (with_email e m ∷ []))
+    → Alike (map (name_entry e) (option_to_list o) ++ with_old_email e m ∷ [])
+    (name_entry e (name_given (unwrap_or (option_map (λ k. k.old_name) o) name) m) ∷ [])
+name_combined e name m is some None same = rw (name_given_entry m name is some e) (alike_itself (with_old_email e m ∷ []))
 name_combined e name m is some (Some k) same = let here = same k refl in grind (arith, common_steps)
 
 map-parted : {X Y : Type 0} (f : X → Y) (xs : List X) (o : Option X) (ys : List X)
@@ -131,17 +131,17 @@ listing-parted : (before after : List EmailGroup) (o : Option EmailGroup)
 listing-parted before after o = grind (arith, listing-append)
 
 module _ (m : Mapping) {gs : List EmailGroup} (are : AreGroups gs) (r : Result ℕ ℕ)
-    (place : IsPlace folded_email (email_text m) gs r) where
+    (place : IsPlace folded_email (folded_email_of m) gs r) where
   -- the group h in the place of the entry's email, whose entries are those that were there, and v for mid and u
-  pub put_placed : (h : EmailGroup) → folded_email h ≡ email_text m
+  pub put_placed : (h : EmailGroup) → folded_email h ≡ folded_email_of m
       → IsStrictlySortedBy text_cmp (map folded_name h.names) → (front mid back : List Mapping) (u v : Mapping)
       → found_entries (found_in gs r) ≡ front ++ (mid ++ back) → group_entries h ≡ front ++ v ∷ back
       → Alike (listing gs ++ m ∷ []) (listing gs ++ u ∷ []) → key u ≡ key v → u.old_email ≡ v.old_email
       → Alike (mid ++ u ∷ []) (v ∷ []) → IsPutInto m gs (index_of r) (placed gs r h)
   put_placed h same up front mid back u v old new respelt keys email here =
-      let within = place_within folded_email (email_text m) gs r place in
+      let within = place_within folded_email (folded_email_of m) gs r place in
       let made : AreGroups (placed gs r h) = record {
-        ascending = placed_sorted folded_email (email_text m) gs r h same are.ascending place;
+        ascending = placed_sorted folded_email (folded_email_of m) gs r h same are.ascending place;
         each = all_placed IsGroup gs r h are.each
             (record { ascending = up; says = λ none. some front v back (sym new ∙ none) });
       } in
@@ -163,39 +163,39 @@ module _ (m : Mapping) {gs : List EmailGroup} (are : AreGroups gs) (r : Result �
           normal = same_normal n _ n (alike_back _ n (alike_trans _ (listing gs ++ u ∷ []) n respelt
               (rw whole (put_among (lower ++ front) mid (back ++ higher) n u v parts normal keys email here)))) normal;
         };
-        found = placed_found folded_email (email_text m) gs r h same within;
+        found = placed_found folded_email (folded_email_of m) gs r h same within;
       }
 
 module _ (m : Mapping) {gs : List EmailGroup} (are : AreGroups gs) (i : ℕ) where
   -- an email that is not there is added
-  pub put_missing : i ≤ length gs → IsMissing folded_email (email_text m) gs i → is_accepted m ≡ true
-      → IsPaired m → IsPutInto m gs i (insert gs i (group_with m m.old_name))
+  pub put_missing : i ≤ length gs → IsMissing folded_email (folded_email_of m) gs i → is_accepted m ≡ true
+      → IsPaired m → IsPutInto m gs i (insert gs i (email_given m m.old_name))
   put_missing le missing good paired =
-      put_placed m are (Err i) (le, missing) (group_with m m.old_name) (same m.old_name) (one_sorted m m.old_name) [] [] [] m m
+      put_placed m are (Err i) (le, missing) (email_given m m.old_name) (same m.old_name) (one_sorted m m.old_name) [] [] [] m m
       refl (one_entry m m.old_name refl good paired) (alike_itself _) refl refl (alike_itself (m ∷ []))
     where
-      same : (o : Option Text) → folded_email (group_with m o) ≡ email_text m
+      same : (o : Option Text) → folded_email (email_given m o) ≡ folded_email_of m
       same o = grind arith
 
-  module _ (found : IsFound folded_email (email_text m) gs i) (g : EmailGroup) (read : slice_get gs i ≡ Some g) where
+  module _ (found : IsFound folded_email (folded_email_of m) gs i) (g : EmailGroup) (read : slice_get gs i ≡ Some g) where
     within : i < length gs
     within = slice_get_within gs i g read
 
     here : g ≡ get_or gs i g
     here = sym (get_or_from_slice_get gs i g g read)
 
-    same_email : folded_email g ≡ email_text m
-    same_email = found_key folded_email (email_text m) gs i found g here
+    same_email : folded_email g ≡ folded_email_of m
+    same_email = found_key folded_email (folded_email_of m) gs i found g here
 
     -- the entry, spelled as the email is
     abbrev spelt : Mapping
-    spelt = with_email g.old_email m
+    spelt = with_old_email g.old_email m
 
     respelt : Alike (listing gs ++ m ∷ []) (listing gs ++ spelt ∷ [])
     respelt =
-        let there : spelling (listing gs ++ m ∷ []) (email_text m) ≡ Some g.old_email =
+        let there : spelling (listing gs ++ m ∷ []) (folded_email_of m) ≡ Some g.old_email =
         first_parts (λ e. e.old_email) _ (listing gs) (m ∷ [])
-        ∙ ap (λ o. option_or o (spelling (m ∷ []) (email_text m)))
+        ∙ ap (λ o. option_or o (spelling (m ∷ []) (folded_email_of m)))
         (ap (spelling (listing gs)) (sym same_email) ∙ spelled_there gs are i g within here) in
         subst (λ o. Alike (listing gs ++ m ∷ []) (listing gs ++ record m { old_email = unwrap_or o [] } ∷ [])) there
         (alike_respelled (listing gs) (m ∷ []) (m ∷ []) (λ k. refl))
@@ -222,11 +222,11 @@ module _ (m : Mapping) {gs : List EmailGroup} (are : AreGroups gs) (i : ℕ) whe
 
     pub name_put : (name : Text) → m.old_name ≡ Some name → IsPaired m → (r : Result ℕ ℕ)
         → IsPlace folded_name (folded name) g.names r
-        → IsPutInto m gs i (set gs i (record g { names = placed g.names r (said (spelled_name g.names r name) m) }))
+        → IsPutInto m gs i (set gs i (record g { names = placed g.names r (name_given (spelled_name g.names r name) m) }))
     name_put name is paired r place =
         let some : IsSome m.new_email = paired (ap is_some is) in
         let ns = g.names in
-        let n = said (spelled_name ns r name) m in
+        let n = name_given (spelled_name ns r name) m in
         let row = name_entry g.old_email in
         let within = place_within folded_name (folded name) ns r place in
         let same = name_same name (found_in ns r) (found_same folded_name (folded name) ns r place) in

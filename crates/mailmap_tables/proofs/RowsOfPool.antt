@@ -8,7 +8,7 @@ use Rattle.std.proofs.lemmas.Bool.Decides.{nat_tests}
 use Rattle.std.proofs.lemmas.Option.{same_Some}
 use Rattle.mailmap_entries.specs.Folding.{Text}
 use Rattle.mailmap_entries.specs.Semantics.{Fields}
-use Rattle.mailmap_tables.specs.Pool.{Extends, IsRow, IsStored, IsWithin, TextsInPool, name_group, spelled}
+use Rattle.mailmap_tables.specs.Pool.{Extends, HasTexts, IsStored, IsWithin, TextsInPool, stored_name, spelled}
 use Rattle.mailmap_tables.specs.Pool.{text_of}
 use Rattle.mailmap_tables.specs.RowTexts.{byte_count, email_span, name_span, span_of}
 use Rattle.mailmap_tables.specs.declared.texts.TheConstants.{NO_TEXT}
@@ -71,7 +71,7 @@ stored_on old new later text len to s = options_on new later to (span_of (length
 
 pub row_stored : (pool one two three old : Text) (name email : Option Text) (t : RowTexts) → t.start ≡ length pool
     → Extends one two → Extends two three → IsStored pool one (Some old) t.old_len → IsStored one two name t.new_name_len
-    → IsStored two three email t.new_email_len → IsRow three old (record { name = name; email = email }) t
+    → IsStored two three email t.new_email_len → HasTexts three old (record { name = name; email = email }) t
 unfolding name_span email_span
 row_stored pool one two three old name email t start then last its_old its_name its_email =
     let to = extends_through one two three then last in
@@ -94,6 +94,6 @@ row_stored pool one two three old name email t start then last its_old its_name 
 
 -- ---- a row as the name that it represents
 
-pub name_of_row : (pool old : Text) (fields : Fields) (t : RowTexts) → IsRow pool old fields t → name_group pool t
+pub name_of_row : (pool old : Text) (fields : Fields) (t : RowTexts) → HasTexts pool old fields t → stored_name pool t
     ≡ record { old_name = old; new_name = fields.name; new_email = unwrap_or fields.email [] }
 name_of_row pool old fields t row = grind arith

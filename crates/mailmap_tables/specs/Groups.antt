@@ -8,7 +8,7 @@ use Rattle.mailmap_entries.specs.Folding.{Text, folded, text_cmp}
 use Rattle.mailmap_entries.specs.Semantics.{Fields, mapping_with}
 
 -- an old name as it is stored, and the fields that replace it and its email
-pub record NameGroup : Type 0 where
+pub record StoredName : Type 0 where
   pub old_name : Text
   pub new_name : Option Text
   pub new_email : Text
@@ -17,18 +17,18 @@ pub record NameGroup : Type 0 where
 pub record EmailGroup : Type 0 where
   pub old_email : Text
   pub unnamed : Fields
-  pub names : List NameGroup
+  pub names : List StoredName
 
 abbrev pub folded_email : EmailGroup → Text
 folded_email g = folded g.old_email
 
-abbrev pub folded_name : NameGroup → Text
+abbrev pub folded_name : StoredName → Text
 folded_name n = folded n.old_name
 
-abbrev pub name_fields : NameGroup → Fields
+abbrev pub name_fields : StoredName → Fields
 name_fields n = record { name = n.new_name; email = Some n.new_email }
 
-abbrev pub name_entry : Text → NameGroup → Mapping
+abbrev pub name_entry : Text → StoredName → Mapping
 name_entry email n = mapping_with (name_fields n) (Some n.old_name) email
 
 -- the entry of an email for all other names, if it has a field for them

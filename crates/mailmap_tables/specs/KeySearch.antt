@@ -25,11 +25,6 @@ abbrev pub IsPlace : {X : Type 0} → (X → Text) → Text → List X → Resul
 IsPlace f k xs (Ok i) = IsFound f k xs i
 IsPlace f k xs (Err i) = (i ≤ length xs) × IsMissing f k xs i
 
--- the index of a place, whether something is there or not
-abbrev pub index_of : Result ℕ ℕ → ℕ
-index_of (Ok i) = i
-index_of (Err i) = i
-
 -- what was found
 abbrev pub found_in : {X : Type 0} → List X → Result ℕ ℕ → Option X
 found_in xs (Ok i) = slice_get xs i

@@ -7,7 +7,7 @@ use Rattle.mailmap_entries.specs.Folding.{Text}
 use Rattle.mailmap_entries.specs.Prefixes.{key_prefix}
 use Rattle.mailmap_entries.specs.Semantics.{Fields}
 use Rattle.mailmap_entries.specs.Entries.{Mapping}
-use Rattle.mailmap_tables.specs.Groups.{Contents, EmailGroup, NameGroup, folded_email, listing, name_entry, name_total}
+use Rattle.mailmap_tables.specs.Groups.{Contents, EmailGroup, StoredName, folded_email, listing, name_entry, name_total}
 use Rattle.mailmap_tables.specs.RowTexts.{byte_count, email_span, name_span, old_span, span_of}
 use Rattle.mailmap_tables.specs.declared.texts.Source.{Source}
 use Rattle.mailmap_tables.specs.declared.texts.Source.TheVariants.{Given, Pool}
@@ -31,8 +31,8 @@ fields_of pool t = record {
 }
 
 -- the name that a row represents
-abbrev pub name_group : Text → RowTexts → NameGroup
-name_group pool t = record {
+abbrev pub stored_name : Text → RowTexts → StoredName
+stored_name pool t = record {
   old_name = spelled pool (old_span t);
   new_name = (fields_of pool t).name;
   new_email = unwrap_or (fields_of pool t).email [];
@@ -43,7 +43,7 @@ abbrev pub group_of : Text → RowTexts → List RowTexts → EmailGroup
 group_of pool t names = record {
   old_email = spelled pool (old_span t);
   unnamed = fields_of pool t;
-  names = map (name_group pool) names;
+  names = map (stored_name pool) names;
 }
 
 -- the texts of a row lie within a pool of n bytes
@@ -58,11 +58,11 @@ pub record NameInPool (n : ℕ) (t : RowTexts) : Type 0 where
   pub new_email : IsSome (email_span t)
 
 -- the texts of an email's row and of its names lie within the pool
-pub record RowsInPool (pool : Text) (t : RowTexts) (ns : List RowTexts) : Type 0 where
+pub record EmailInPool (pool : Text) (t : RowTexts) (ns : List RowTexts) : Type 0 where
   pub email_lies : TextsInPool (length pool) t
   pub names_lie : AllByRecursion (NameInPool (length pool)) ns
 
--- the texts of an email and the rows of its names, wherever these are in memory
+-- an email's row: its texts and the rows of its names, wherever these are in memory
 pub record Row : Type 0 where
   pub texts : RowTexts
   pub names : List RowTexts
@@ -77,15 +77,15 @@ abbrev pub row_group : Text → Row → EmailGroup
 row_group pool r = group_of pool r.texts r.names
 
 abbrev pub RowInPool : Text → Row → Type 0
-RowInPool pool r = RowsInPool pool r.texts r.names
+RowInPool pool r = EmailInPool pool r.texts r.names
 
 -- the key prefix of an email
 abbrev pub prefix_of : EmailGroup → ℕ
 prefix_of g = key_prefix 16 (folded_email g)
 
 -- What always holds of tables. The order of the emails isn't in it: `insert_email` and others edit the row that their
--- caller names, and only the caller knows that this keeps the order. So few names that they and the emails can be added
--- up.
+-- caller names, and only the caller knows that this keeps the order. It is in `AreGroups`, which `merge` and `put`
+-- require and keep. There are so few names that they and the emails can be added up.
 pub record AreTables (pool : Text) (rows : List Row) (prefixes : List ℕ) (name_count : ℕ) : Type 0 where
   pub lie : AllByRecursion (RowInPool pool) rows
   pub prefix_each : prefixes ≡ map prefix_of (map (row_group pool) rows)
@@ -121,7 +121,7 @@ pub record IsStored (old new : Text) (text : Option Text) (len : ℕ) : Type 0 w
   pub next : length new ≡ length old + byte_count len
 
 -- a row with these texts, which lie in the pool
-pub record IsRow (pool : Text) (old : Text) (fields : Fields) (t : RowTexts) : Type 0 where
+pub record HasTexts (pool : Text) (old : Text) (fields : Fields) (t : RowTexts) : Type 0 where
   pub lies : TextsInPool (length pool) t
   pub old_is : spelled pool (old_span t) ≡ old
   pub fields_are : fields_of pool t ≡ fields
@@ -129,11 +129,12 @@ pub record IsRow (pool : Text) (old : Text) (fields : Fields) (t : RowTexts) : T
 -- ---- changes of rows
 
 -- with the email at an index replaced
-abbrev pub with_email_at : Contents → ℕ → EmailGroup → Contents
-with_email_at c index g = record c { groups = slice_set c.groups index g }
+abbrev pub with_group_at : Contents → ℕ → EmailGroup → Contents
+with_group_at c index g = record c { groups = slice_set c.groups index g }
 
 -- ---- a listing, step by step
 
 -- the given names of one email, followed by all entries of the emails from an index on
 abbrev pub left_to_list : Contents → Text → List RowTexts → ℕ → List Mapping
-left_to_list t email names index = map (name_entry email) (map (name_group t.pool) names) ++ listing (drop index t.groups)
+left_to_list t email names index =
+    map (name_entry email) (map (stored_name t.pool) names) ++ listing (drop index t.groups)

@@ -5,7 +5,7 @@ use Rattle.std.specs.Option.{option_map}
 use Rattle.mailmap_entries.specs.Entries.{Mapping}
 use Rattle.mailmap_entries.specs.Folding.{Text, folded}
 use Rattle.mailmap_entries.specs.Semantics.{IsNormal, is_accepted, new_fields, no_fields}
-use Rattle.mailmap_tables.specs.Groups.{AreGroups, EmailGroup, NameGroup, folded_email, listing}
+use Rattle.mailmap_tables.specs.Groups.{AreGroups, EmailGroup, StoredName, folded_email, listing}
 use Rattle.mailmap_tables.specs.KeySearch.{IsFound, found_in}
 
 -- each entry has a new name or a new email
@@ -13,23 +13,23 @@ abbrev pub AreAccepted : List Mapping → Type 0
 AreAccepted ms = AllByRecursion (λ m. is_accepted m ≡ true) ms
 
 -- the entry with this spelling of its old email
-abbrev pub with_email : Text → Mapping → Mapping
-with_email e m = record m { old_email = e }
+abbrev pub with_old_email : Text → Mapping → Mapping
+with_old_email e m = record m { old_email = e }
 
--- what an entry says about an old name
-abbrev pub said : Text → Mapping → NameGroup
-said name m = record { old_name = name; new_name = m.new_name; new_email = unwrap_or m.new_email [] }
+-- an old name with the new fields of the entry m
+abbrev pub name_given : Text → Mapping → StoredName
+name_given name m = record { old_name = name; new_name = m.new_name; new_email = unwrap_or m.new_email [] }
 
--- the email of one entry, which has this old name, or none
-abbrev pub group_with : Mapping → Option Text → EmailGroup
-group_with m None = record { old_email = m.old_email; unnamed = new_fields m; names = [] }
-group_with m (Some name) = record { old_email = m.old_email; unnamed = no_fields; names = said name m ∷ [] }
+-- the email of the entry m; the other parameter is its old name, apart so that it can be matched
+abbrev pub email_given : Mapping → Option Text → EmailGroup
+email_given m None = record { old_email = m.old_email; unnamed = new_fields m; names = [] }
+email_given m (Some name) = record { old_email = m.old_email; unnamed = no_fields; names = name_given name m ∷ [] }
 
 -- the old name as it is stored at a place, or else as it is given
-abbrev pub spelled_name : List NameGroup → Result ℕ ℕ → Text → Text
+abbrev pub spelled_name : List StoredName → Result ℕ ℕ → Text → Text
 spelled_name names place name = unwrap_or (option_map (λ n. n.old_name) (found_in names place)) name
 
--- groups whose entries are the normal list of these
+-- the groups represent the list h: their entries are its normal list
 pub record Represent (h : List Mapping) (gs : List EmailGroup) : Type 0 where
   pub groups : AreGroups gs
   pub normal : IsNormal h (listing gs)

@@ -5,7 +5,7 @@ ghost use Rattle.std.specs.List.{AllByRecursion};
 ghost use Rattle.std.specs.Option.{option_to_list};
 ghost use Rattle.mailmap_entries.specs.Entries.{mapping_of};
 ghost use Rattle.mailmap_tables.specs.Groups.{listing, name_entry, unnamed_entries};
-ghost use Rattle.mailmap_tables.specs.Pool.{NameInPool, TextsInPool, group_of, left_to_list, name_group, spelled};
+ghost use Rattle.mailmap_tables.specs.Pool.{NameInPool, TextsInPool, group_of, left_to_list, stored_name, spelled};
 ghost use Rattle.mailmap_tables.specs.RowTexts.{old_span};
 
 use crate::rows::NameRow;
@@ -66,7 +66,7 @@ impl<'a> Iterator for Iter<'a> {
             self.reached += 1;
             self.old_email = self.tables.text(texts.old());
             self.names = names;
-            if let Some(entry) = own_entry(&self.tables, self.old_email, texts) {
+            if let Some(entry) = unnamed_entry(&self.tables, self.old_email, texts) {
                 return Some(entry);
             }
         }
@@ -76,8 +76,8 @@ impl<'a> Iterator for Iter<'a> {
     }
 }
 
-// The entry of an email that applies to all names, if there is one.
-fn own_entry<'a>(tables: &View<'a>, old_email: &'a [u8], texts: RowTexts) -> Option<Entry<'a>>
+// The entry of an email for all other names, if there is one.
+fn unnamed_entry<'a>(tables: &View<'a>, old_email: &'a [u8], texts: RowTexts) -> Option<Entry<'a>>
     requires in_pool { TextsInPool (length tables.now.pool) texts }
     requires old_email { old_email.now ≡ spelled tables.now.pool (old_span texts) }
     ensures { option_to_list (option_map mapping_of result) ≡ unnamed_entries (group_of tables.now.pool texts []) }
@@ -94,7 +94,7 @@ fn own_entry<'a>(tables: &View<'a>, old_email: &'a [u8], texts: RowTexts) -> Opt
 // The entry of one of an email's names.
 fn name_entry<'a>(tables: &View<'a>, old_email: &'a [u8], row: &NameRow) -> Entry<'a>
     requires { NameInPool (length tables.now.pool) row.now }
-    ensures { mapping_of result ≡ name_entry old_email.now (name_group tables.now.pool row.now) }
+    ensures { mapping_of result ≡ name_entry old_email.now (stored_name tables.now.pool row.now) }
 {
     let old_name = tables.text(row.old());
     let (new_name, new_email) = tables.fields(*row);

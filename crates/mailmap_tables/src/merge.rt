@@ -9,7 +9,7 @@ ghost use Rattle.mailmap_entries.specs.declared.entry.Entry.{Entry as Item};
 ghost use Rattle.mailmap_entries.specs.Semantics.{IsNormal, accepted, is_accepted};
 ghost use Rattle.mailmap_batches.specs.Batches.{mapping_at};
 ghost use Rattle.mailmap_tables.specs.Groups.{AreGroups, listing};
-ghost use Rattle.mailmap_tables.specs.Put.{AreAccepted, Represent, with_email};
+ghost use Rattle.mailmap_tables.specs.Put.{AreAccepted, Represent, with_old_email};
 
 use crate::listing::Iter;
 use crate::tables::Tables;
@@ -202,7 +202,7 @@ fn put_group(
     requires some { 0 < length group.now }
     requires accepted { All (λ p. is_accepted (mapping_at p) ≡ true) group.now }
     ensures { OnOk result (Represent
-        (listing tables.old.groups ++ map (λ p. with_email email.now (mapping_at p)) group.now) tables.new.groups) }
+        (listing tables.old.groups ++ map (λ p. with_old_email email.now (mapping_at p)) group.now) tables.new.groups) }
 {
     if let [only] = group {
         tables.put(email, only.entry)?;
@@ -224,8 +224,9 @@ fn combined_start<'a>(group: &[IndexedEntry<'_, 'a>]) -> (Entry<'a>, usize)
     ensures some { 0 < result.1 }
     ensures within { result.1 ≤ length group.now }
     ensures accepted { is_accepted (mapping_of result.0) ≡ true }
-    ensures alike { (email : Text) → Alike (map (λ p. with_email email (mapping_at p)) (take result.1 group.now))
-        (with_email email (mapping_of result.0) ∷ []) }
+    ensures alike { (spelling : Text)
+        → Alike (map (λ p. with_old_email spelling (mapping_at p)) (take result.1 group.now))
+        (with_old_email spelling (mapping_of result.0) ∷ []) }
 {
     let mut start = *group[0].entry;
     for i in 1..group.len() {
@@ -244,13 +245,13 @@ fn combined<'a>(first: &Entry<'a>, second: &Entry<'a>) -> Entry<'a>
     requires first_unnamed { (mapping_of first.now).old_name ≡ None }
     requires second_unnamed { (mapping_of second.now).old_name ≡ None }
     ensures accepted { is_accepted (mapping_of result) ≡ true }
-    ensures alike { (email : Text) → Alike
-        (with_email email (mapping_of first.now) ∷ with_email email (mapping_of second.now) ∷ [])
-        (with_email email (mapping_of result) ∷ []) }
+    ensures alike { (spelling : Text) → Alike
+        (with_old_email spelling (mapping_of first.now) ∷ with_old_email spelling (mapping_of second.now) ∷ [])
+        (with_old_email spelling (mapping_of result) ∷ []) }
 {
-    let name = second.new_name().or(first.new_name());
-    let email = second.new_email().or(first.new_email());
-    entry_of(name, email, None, second.old_email())
+    let new_name = second.new_name().or(first.new_name());
+    let new_email = second.new_email().or(first.new_email());
+    entry_of(new_name, new_email, None, second.old_email())
 }
 
 // The tables with these entries after those that they have.

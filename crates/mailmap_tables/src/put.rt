@@ -9,8 +9,8 @@ ghost use Rattle.mailmap_entries.specs.Folding.{Text, folded};
 ghost use Rattle.mailmap_entries.specs.Semantics.{is_accepted, new_fields};
 ghost use Rattle.mailmap_tables.specs.KeySearch.{IsFound};
 ghost use Rattle.mailmap_tables.specs.Groups.{AreGroups, folded_email};
-ghost use Rattle.mailmap_tables.specs.Put.{IsPutInto, group_with, spelled_name, with_email};
-ghost use Rattle.mailmap_tables.specs.Pool.{IsGrown, IsRow, IsWithin, LiesIn, NameInPool, RowInPool, name_group, row_group};
+ghost use Rattle.mailmap_tables.specs.Put.{IsPutInto, email_given, spelled_name, with_old_email};
+ghost use Rattle.mailmap_tables.specs.Pool.{IsGrown, HasTexts, IsWithin, LiesIn, NameInPool, RowInPool, stored_name, row_group};
 ghost use Rattle.mailmap_tables.specs.Pool.{row_of, spelled, text_of};
 
 use crate::rows::{EmailRow, NameRow};
@@ -30,8 +30,8 @@ impl Tables {
     pub(crate) fn put(&mut self, email: &[u8], entry: &Entry<'_>) -> Result<usize, AllocError>
         requires groups { AreGroups self.old.groups }
         requires accepted { is_accepted (mapping_of entry.now) ≡ true }
-        ensures ok { IfOk result (λ index. IsPutInto (with_email email.now (mapping_of entry.now)) self.old.groups index
-            self.new.groups) }
+        ensures ok { IfOk result (λ index. IsPutInto (with_old_email email.now (mapping_of entry.now))
+            self.old.groups index self.new.groups) }
         ensures err { OnErr result (self.new.groups ≡ self.old.groups) }
     {
         let email = Prefixed::new(email);
@@ -59,16 +59,16 @@ impl Tables {
         requires groups { AreGroups self.old.groups }
         requires found { IsFound folded_email (folded email.now) self.old.groups index }
         requires accepted { is_accepted (mapping_of entry.now) ≡ true }
-        ensures ok { OnOk result (IsPutInto (with_email email.now (mapping_of entry.now)) self.old.groups index
-            self.new.groups) }
+        ensures ok { OnOk result (IsPutInto (with_old_email email.now (mapping_of entry.now))
+            self.old.groups index self.new.groups) }
         ensures err { OnErr result (self.new.groups ≡ self.old.groups) }
     {
         let view = self.view();
-        let (own, names) = view.email(index);
+        let (email_texts, names) = view.email(index);
         let Some(old_name) = entry.old_name() else {
-            let (new_name, new_email) = view.fields(own);
+            let (new_name, new_email) = view.fields(email_texts);
             let row = self.append_row(
-                Source::Pool(own.old()),
+                Source::Pool(email_texts.old()),
                 given_or(entry.new_name(), new_name),
                 given_or(entry.new_email(), new_email),
             )?;
@@ -86,7 +86,7 @@ impl Tables {
         ensures grown { IsGrown self.old self.new }
         ensures in_pool { IfOk result (λ row. RowInPool self.new.pool (row_of row)) }
         ensures row { IfOk result (λ row. row_group self.new.pool (row_of row)
-            ≡ group_with (with_email email.now (mapping_of entry.now)) (mapping_of entry.now).old_name) }
+            ≡ email_given (with_old_email email.now (mapping_of entry.now)) (mapping_of entry.now).old_name) }
     {
         let alloc = self.allocator();
         match entry.old_name() {
@@ -109,7 +109,7 @@ impl Tables {
         requires { IsWithin (length self.old.pool) old }
         ensures grown { IsGrown self.old self.new }
         ensures row { IfOk result
-            (IsRow self.new.pool (text_of self.old.pool old.entry) (new_fields (mapping_of entry.now))) }
+            (HasTexts self.new.pool (text_of self.old.pool old.entry) (new_fields (mapping_of entry.now))) }
     {
         self.append_row(
             old,
@@ -122,7 +122,8 @@ impl Tables {
 // The old name at a place: as it is stored there, or else as it is given.
 fn name_at<'n>(names: &[NameRow], place: Result<usize, usize>, name: &'n [u8]) -> Source<'n>
     requires { IsSearchInRange place (length names.now) }
-    ensures text { (pool : Text) → text_of pool result ≡ spelled_name (map (name_group pool) names.now) place name.now }
+    ensures text { (pool : Text)
+        → text_of pool result ≡ spelled_name (map (stored_name pool) names.now) place name.now }
     ensures within { (n : ℕ) → AllByRecursion (NameInPool n) names.now → IsWithin n result }
 {
     match place {

@@ -6,7 +6,7 @@ ghost use Rattle.mailmap_entries.specs.Folding.{folded, text_cmp};
 ghost use Rattle.mailmap_entries.specs.Search.{IsPartitioned, digits};
 ghost use Rattle.mailmap_tables.specs.Groups.{folded_email, folded_name};
 ghost use Rattle.mailmap_tables.specs.KeySearch.{IsFound, IsMissing, IsPlace, compared};
-ghost use Rattle.mailmap_tables.specs.Pool.{LiesIn, NameInPool, name_group};
+ghost use Rattle.mailmap_tables.specs.Pool.{LiesIn, NameInPool, stored_name};
 ghost use Rattle.mailmap_tables.specs.RowTexts.{old_span};
 
 use crate::rows::NameRow;
@@ -47,7 +47,7 @@ struct NameProbe<'t, 'a, 'n> {
 }
 
 impl Probe for NameProbe<'_, '_, '_> {
-    ghost answers = { λ p. compared folded_name (folded p.name.now) (map (name_group p.tables.now.pool) p.names.now) };
+    ghost answers = { λ p. compared folded_name (folded p.name.now) (map (stored_name p.tables.now.pool) p.names.now) };
 
     ghost asked = { λ p. p.steps };
 
@@ -99,9 +99,9 @@ pub(crate) fn place_of_name(
     name: &[u8],
 ) -> Result<usize, usize>
     requires in_pool { AllByRecursion (NameInPool (length tables.now.pool)) names.now }
-    requires ascending { IsStrictlySortedBy text_cmp (map folded_name (map (name_group tables.now.pool) names.now)) }
+    requires ascending { IsStrictlySortedBy text_cmp (map folded_name (map (stored_name tables.now.pool) names.now)) }
     ensures within { IsSearchInRange result (length names.now) }
-    ensures place { IsPlace folded_name (folded name.now) (map (name_group tables.now.pool) names.now) result }
+    ensures place { IsPlace folded_name (folded name.now) (map (stored_name tables.now.pool) names.now) result }
 {
     let mut probe = NameProbe {
         tables,
@@ -148,11 +148,12 @@ pub fn find_name_counted(
 ) -> Result<usize, usize>
     requires in_pool { AllByRecursion (NameInPool (length tables.now.pool)) names.now }
     requires ascending { IsStrictlySortedBy text_cmp
-        (map folded_name (map (name_group tables.now.pool) names.now)) }
+        (map folded_name (map (stored_name tables.now.pool) names.now)) }
     requires countable { steps.old ≤ usize.MAX - 64 }
     ensures within { IsSearchInRange result (length names.now) }
-    ensures found { IfOk result (IsFound folded_name (folded name.now) (map (name_group tables.now.pool) names.now)) }
-    ensures missing { IfErr result (IsMissing folded_name (folded name.now) (map (name_group tables.now.pool) names.now)) }
+    ensures found { IfOk result (IsFound folded_name (folded name.now) (map (stored_name tables.now.pool) names.now)) }
+    ensures missing { IfErr result
+        (IsMissing folded_name (folded name.now) (map (stored_name tables.now.pool) names.now)) }
     ensures at_most { steps.new ≤ steps.old + digits (length names.now) }
     ensures at_least { steps.old + min 1 (length names.now) ≤ steps.new }
 {

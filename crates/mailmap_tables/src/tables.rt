@@ -133,8 +133,8 @@ fn copied(alloc: Global, rows: &[EmailRow]) -> Result<Vec<EmailRow>, AllocError>
 /// Changes of single rows.
 impl Tables {
     ghost use Rattle.mailmap_tables.specs.Groups.{Contents};
-    ghost use Rattle.mailmap_tables.specs.Pool.{IsGrown, IsRow, IsWithin, NameInPool, RowInPool, TextsInPool, fields_of};
-    ghost use Rattle.mailmap_tables.specs.Pool.{name_group, prefix_of, row_group, row_of, spelled, text_of, with_email_at};
+    ghost use Rattle.mailmap_tables.specs.Pool.{IsGrown, HasTexts, IsWithin, NameInPool, RowInPool, TextsInPool, fields_of};
+    ghost use Rattle.mailmap_tables.specs.Pool.{stored_name, prefix_of, row_group, row_of, spelled, text_of, with_group_at};
     ghost use Rattle.mailmap_tables.specs.RowTexts.{old_span};
 
     /// Appends the texts of a row to the pool.
@@ -148,7 +148,7 @@ impl Tables {
         requires new_name { ForSome new_name (IsWithin (length self.old.pool)) }
         requires new_email { ForSome new_email (IsWithin (length self.old.pool)) }
         ensures grown { IsGrown self.old self.new }
-        ensures row { IfOk result (IsRow self.new.pool (text_of self.old.pool old.entry)
+        ensures row { IfOk result (HasTexts self.new.pool (text_of self.old.pool old.entry)
             (record {
               name = option_map (text_of self.old.pool) new_name.entry;
               email = option_map (text_of self.old.pool) new_email.entry;
@@ -158,33 +158,34 @@ impl Tables {
     }
 
     /// Replaces the texts of an email. The spelling of the old email stays the same.
-    pub(crate) fn replace_texts(&mut self, email: usize, texts: RowTexts)
-        requires email { email < length self.old.groups }
+    pub(crate) fn replace_texts(&mut self, index: usize, texts: RowTexts)
+        requires index { index < length self.old.groups }
         requires in_pool { TextsInPool (length self.old.pool) texts }
-        requires same { ForSome (slice_get self.old.groups email)
+        requires same { ForSome (slice_get self.old.groups index)
             (λ g. spelled self.old.pool (old_span texts) ≡ g.old_email) }
-        ensures { ForSome (slice_get self.old.groups email)
-            (λ g. self.new ≡ with_email_at self.old email (record g { unnamed = fields_of self.old.pool texts })) }
+        ensures { ForSome (slice_get self.old.groups index)
+            (λ g. self.new ≡ with_group_at self.old index (record g { unnamed = fields_of self.old.pool texts })) }
     {
-        self.emails[email].texts = texts;
+        self.emails[index].texts = texts;
     }
 
     /// Replaces the row at a place among the names of an email, or inserts it there.
     pub(crate) fn place_name(
         &mut self,
-        email: usize,
+        index: usize,
         place: Result<usize, usize>,
         row: NameRow,
     ) -> Result<(), AllocError>
-        requires email { email < length self.old.groups }
-        requires place { ForSome (slice_get self.old.groups email) (λ g. IsSearchInRange place (length g.names)) }
+        requires index { index < length self.old.groups }
+        requires place { ForSome (slice_get self.old.groups index) (λ g. IsSearchInRange place (length g.names)) }
         requires in_pool { NameInPool (length self.old.pool) row }
-        ensures ok { OnOk result (ForSome (slice_get self.old.groups email) (λ g. self.new
-            ≡ with_email_at self.old email (record g { names = placed g.names place (name_group self.old.pool row) }))) }
+        ensures ok { OnOk result (ForSome (slice_get self.old.groups index) (λ g. self.new
+            ≡ with_group_at self.old index
+            (record g { names = placed g.names place (stored_name self.old.pool row) }))) }
         ensures err { OnErr result (self.new ≡ self.old) }
     {
         let count = with_more(self.name_count, usize::from(place.is_err()))?;
-        place_row(&mut self.emails[email].names, place, row)?;
+        place_row(&mut self.emails[index].names, place, row)?;
         self.name_count = count;
         Ok(())
     }

@@ -2,7 +2,7 @@
 //! pool.
 ghost use Rattle.std.specs.Prelude.{◌≡◌, ◌+◌, IfOk, Some, length};
 ghost use Rattle.std.specs.Option.{ForSome, option_map};
-ghost use Rattle.mailmap_tables.specs.Pool.{Extends, IsRow, IsStored, IsWithin, text_of};
+ghost use Rattle.mailmap_tables.specs.Pool.{Extends, HasTexts, IsStored, IsWithin, text_of};
 ghost use Rattle.mailmap_tables.specs.RowTexts.{byte_count, old_span, span_of};
 
 use std::alloc::AllocError;
@@ -76,7 +76,7 @@ pub(crate) fn append_row(
     requires new_name { ForSome new_name (IsWithin (length pool.old.items)) }
     requires new_email { ForSome new_email (IsWithin (length pool.old.items)) }
     ensures grown { Extends pool.old.items pool.new.items }
-    ensures row { IfOk result (IsRow pool.new.items (text_of pool.old.items old.entry)
+    ensures row { IfOk result (HasTexts pool.new.items (text_of pool.old.items old.entry)
         (record {
           name = option_map (text_of pool.old.items) new_name.entry;
           email = option_map (text_of pool.old.items) new_email.entry;

@@ -1,5 +1,5 @@
 //! Read access to tables, for lookups, listings and merges.
-ghost use Rattle.std.specs.Prelude.{◌≡◌, ◌≤◌, ◌<◌, get_or, length, map, Some, slice_get};
+ghost use Rattle.std.specs.Prelude.{◌≡◌, ◌≤◌, ◌<◌, length, map, Some, slice_get, slice_index_or};
 ghost use Rattle.std.specs.Option.{option_map, option_copied, ForSome};
 
 use crate::rows::{EmailRow, NameRow};
@@ -31,7 +31,7 @@ impl<'a> Model for View<'a> {
 
 impl<'a> View<'a> {
     ghost use Rattle.mailmap_tables.specs.Groups.{Contents, EmailGroup, listing, row_count};
-    ghost use Rattle.mailmap_tables.specs.Pool.{AreTables, LiesIn, RowsInPool, TextsInPool, contents, group_of, rows_of};
+    ghost use Rattle.mailmap_tables.specs.Pool.{AreTables, LiesIn, EmailInPool, TextsInPool, contents, group_of, rows_of};
     ghost use Rattle.mailmap_tables.specs.Pool.{spelled};
     ghost use Rattle.mailmap_tables.specs.RowTexts.{email_span, name_span};
 
@@ -118,7 +118,7 @@ impl<'a> View<'a> {
     pub fn email(&self, index: usize) -> (RowTexts, &'a [NameRow])
         requires { index < length self.now.groups }
         ensures group { slice_get self.now.groups index ≡ Some (group_of self.now.pool result.0 result.1.now) }
-        ensures in_pool { RowsInPool self.now.pool result.0 result.1.now }
+        ensures in_pool { EmailInPool self.now.pool result.0 result.1.now }
     {
         let row = at(self.emails, index);
         (row.texts, row.names.as_slice())
@@ -128,7 +128,7 @@ impl<'a> View<'a> {
 // An element, with the one equation about it that the proofs of all callers use.
 fn at<T>(rows: &[T], index: usize) -> &T
     requires { index < length rows.now }
-    ensures { result.now ≡ get_or rows.now index result.now }
+    ensures { result.now ≡ slice_index_or rows.now index result.now }
 {
     &rows[index]
 }

@@ -22,11 +22,11 @@ unfolding whole_lines
 last_line g [] held = rw trim-nil refl
 last_line g (b ∷ line) held = one_line (explained_line g) (b ∷ line) (inr (((λ e. cc), held), refl), tt)
 
--- the first line feed of a part ends the line that is kept
-pub line_ended : (g : Grounds) (kept part : Text) (feed : ℕ) → IsFirstByte (is_byte 10) part (Some feed)
-    → HoldsNo 10 kept
-    → each_line (explained_line g) (kept ++ take (feed + 1) part) ≡ explained_line g (kept ++ take (feed + 1) part)
-line_ended g kept part feed first held =
-    let front = kept ++ take feed part in
-    let line_is : kept ++ take (feed + 1) part ≡ front ++ 10 ∷ [] = ap (λ l. kept ++ l) (last_at part feed (feed + 1) 10 first.0.high refl (eqb-true _ _ first.1)) ∙ sym (append_assoc kept (take feed part) (10 ∷ [])) in
-    one_line (explained_line g) _ (inl (front, all_append _ kept (take feed part) held (held_before 10 part feed first), line_is), tt)
+-- the first line feed of a part ends the partial line
+pub line_ended : (g : Grounds) (partial part : Text) (feed : ℕ) → IsFirstByte (is_byte 10) part (Some feed)
+    → HoldsNo 10 partial
+    → each_line (explained_line g) (partial ++ take (feed + 1) part) ≡ explained_line g (partial ++ take (feed + 1) part)
+line_ended g partial part feed first held =
+    let front = partial ++ take feed part in
+    let line_is : partial ++ take (feed + 1) part ≡ front ++ 10 ∷ [] = ap (λ l. partial ++ l) (last_at part feed (feed + 1) 10 first.0.high refl (eqb-true _ _ first.1)) ∙ sym (append_assoc partial (take feed part) (10 ∷ [])) in
+    one_line (explained_line g) _ (inl (front, all_append _ partial (take feed part) held (held_before 10 part feed first), line_is), tt)

@@ -47,7 +47,7 @@ explained_line g line = shown_unless_blank (trim line) (contact_explained g (tri
 
 -- each row is a line with its explanation
 abbrev pub ExplainsEach : Grounds → List CachedLine → Type 0
-ExplainsEach g kept = All (λ k. k.answer ≡ explained_line g k.line) kept
+ExplainsEach g rows = All (λ row. row.answer ≡ explained_line g row.line) rows
 
 -- the texts for lines, one after another
 abbrev pub each_line : (Text → Text) → Text → Text

@@ -176,8 +176,11 @@ notice_piece c n = record { text = reported_text c n; counts = counts c n.kind }
 abbrev pub finding_piece : Choices → List Text → Finding → Piece
 finding_piece c paths f = notice_piece c (finding_notice paths f)
 
+abbrev pub report_pieces : Choices → List Text → List Finding → List Piece
+report_pieces c paths findings = map (finding_piece c paths) findings
+
 abbrev pub report : Choices → List Text → List Finding → Text
-report c paths findings = text_of (map (finding_piece c paths) findings)
+report c paths findings = text_of (report_pieces c paths findings)
 
 -- ---- findings about contacts
 

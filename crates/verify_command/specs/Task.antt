@@ -19,7 +19,7 @@ use Rattle.command_line.specs.declared.TheConstants.{VERSION}
 use Rattle.command_line.specs.declared.outcome.Outcome.{Outcome}
 use Rattle.command_line.specs.declared.outcome.Outcome.TheVariants.{Clean}
 pub use Rattle.verify_command.specs.Arguments.{Wanted, is_dash, reads_contacts, reads_mailmap, takes_contacts, wanted_of}
-use Rattle.verify_command.specs.Report.{Piece, Says, finding_piece}
+use Rattle.verify_command.specs.Report.{Piece, Says, report_pieces}
 use Rattle.verify_command.specs.Explained.{ExplainsBy}
 use Rattle.verify_command.specs.Settings.{mailmap_names}
 use Rattle.verify_command.specs.declared.failure.TaskFailure.{TaskFailure}
@@ -55,7 +55,7 @@ version_line = codes "mailmap_verify " ++ VERSION.now ++ 10 ∷ []
 -- whether one of them counts.
 abbrev pub IsReport : Wanted → List Text → Outcome → Text → Type 0
 IsReport w mailmaps outcome text = (findings : List Finding) × AreFindings mailmaps findings
-    × Says outcome text (map (finding_piece w.choices (mailmap_names w.choices w.paths)) findings)
+    × Says outcome text (report_pieces w.choices (mailmap_names w.choices w.paths) findings)
 
 -- The text is the one mailmap without its lines that have no effect; git reads each of its lines alike.
 abbrev pub IsPrunedFrom : List Text → Outcome → Text → Type 0

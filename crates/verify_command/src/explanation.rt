@@ -157,8 +157,8 @@ pub(crate) fn explain<R: Read, W: Write>(
         (R.remaining input.new) (W.contents output.old) (W.contents output.new) result }
     ensures only { IfErr result (λ e. IsOfInput e ⊎ (e ≡ Failure.Memory) ⊎ (e ≡ Failure.Output)) }
 {
-    let kept = Vec::new(alloc);
-    let mut lines = ExplainedLines { explainer, kept };
+    let partial = Vec::new(alloc);
+    let mut lines = ExplainedLines { explainer, partial };
     answer_lines(alloc, &mut lines, input, output)
 }
 
@@ -167,35 +167,35 @@ pub(crate) fn explain<R: Read, W: Write>(
 struct ExplainedLines<'p, 'm, 'a> {
     explainer: Explainer<'p, 'm, 'a>,
     // the start of a line that hasn't ended yet
-    kept: Vec<u8>,
+    partial: Vec<u8>,
 }
 
 impl LineAnswers for ExplainedLines<'_, '_, '_> {
     ghost answers = { λ s. each_line (explained_line s.explainer) };
 
-    ghost kept = { λ s. s.kept.items };
+    ghost partial = { λ s. s.partial.items };
 
     fn push(&mut self, part: &[u8], text: &mut Vec<u8>) -> Result<usize, AllocError> {
         let Some(feed) = part.find_byte(b'\n') else {
-            self.kept.extend_from_slice(part)?;
+            self.partial.extend_from_slice(part)?;
             return Ok(part.len());
         };
-        let begun = self.kept.len();
-        self.kept.extend_from_slice(&part[..feed + 1])?;
+        let begun = self.partial.len();
+        self.partial.extend_from_slice(&part[..feed + 1])?;
         let Ok(()) = self
             .explainer
-            .push_explained_line(text, self.kept.as_slice())
+            .push_explained_line(text, self.partial.as_slice())
         else {
-            self.kept.truncate(begun);
+            self.partial.truncate(begun);
             return Err(AllocError);
         };
-        self.kept.clear();
+        self.partial.clear();
         Ok(feed + 1)
     }
 
     fn finish(&mut self, text: &mut Vec<u8>) -> Result<(), AllocError> {
         self.explainer
-            .push_explained_line(text, self.kept.as_slice())
+            .push_explained_line(text, self.partial.as_slice())
     }
 
     ghost in_order = { λ s. whole_in_order (explained_line s.explainer) };

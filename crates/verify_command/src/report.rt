@@ -6,7 +6,7 @@ ghost use Rattle.mailmap_grammar.specs.Lines.{fault_of};
 ghost use Rattle.command_line.specs.Files.{texts};
 ghost use Rattle.verify_command.specs.Json.{file_line_of, notice_of};
 ghost use Rattle.verify_command.specs.Report.{Piece as ThePiece, contact_text, cure_text, entry_text, fault_text};
-ghost use Rattle.verify_command.specs.Report.{file_name, finding_piece, git_text, is_email_byte, message_text};
+ghost use Rattle.verify_command.specs.Report.{file_name, git_text, is_email_byte, message_text, report_pieces};
 ghost use Rattle.verify_command.specs.Report.{Says, notice_piece, notice_text, piece_of, place_at, place_text};
 ghost use Rattle.verify_command.specs.Report.{position_text, positions_text, reported_text, says_text, shortened, shown_line};
 ghost use Rattle.verify_command.specs.Settings.{choices_of};
@@ -79,8 +79,8 @@ pub fn print_findings<W: Write>(
     findings: Findings<'_, '_>,
     output: &mut W,
 ) -> Result<Outcome, TaskFailure>
-    ensures leaves { Leaves true (λ outcome text. Says outcome text
-        (map (finding_piece (choices_of settings.now) (texts paths.now)) findings.entry))
+    ensures leaves { Leaves true
+        (λ outcome text. Says outcome text (report_pieces (choices_of settings.now) (texts paths.now) findings.entry))
         W.contents output.old output.new result }
     ensures only { IfErr result EndsPrinting }
 {
@@ -101,7 +101,7 @@ struct FindingPieces<'n, 'v, 'a> {
 }
 
 impl Pieces for FindingPieces<'_, '_, '_> {
-    ghost left = { λ s. map (finding_piece (choices_of s.settings.now) (texts s.names.now)) s.findings };
+    ghost left = { λ s. report_pieces (choices_of s.settings.now) (texts s.names.now) s.findings };
 
     fn next_piece(&mut self, alloc: Global) -> Result<Option<Piece>, AllocError> {
         let Some(finding) = self.findings.next() else {

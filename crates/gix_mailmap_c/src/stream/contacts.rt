@@ -27,7 +27,7 @@ impl Model for ContactQueue {
 
     ghost view = { λ c. record {
       mappings = c.stream.mappings;
-      kept = c.stream.kept;
+      partial = c.stream.partial;
       unread = drop c.read c.answers.items;
     } };
 

@@ -20,7 +20,7 @@ use std::mem::swap;
 /// `push` returns early once the text is this long, so that callers can write the answers before there are more.
 const ENOUGH: usize = 65536;
 
-// Why a push took no more of a part. Only a clause reads it.
+// Why a push took no more of a part. Only the clause `enough` of `take_lines` reads it.
 #[derive(Clone, Copy)]
 enum Stop {
     // The part ended, or the text is long enough.
@@ -45,7 +45,7 @@ enum Stop {
 pub struct ContactStream {
     snapshot: Snapshot,
     // the start of a line that hasn't ended yet
-    kept: Vec<u8>,
+    partial: Vec<u8>,
     // lines that came more than once, and their answers
     cache: AnswerCache,
 }
@@ -56,22 +56,22 @@ impl Model for ContactStream {
 
     ghost Value = { Stream };
 
-    ghost view = { λ s. record { mappings = s.snapshot; kept = s.kept.items } };
+    ghost view = { λ s. record { mappings = s.snapshot; partial = s.partial.items } };
 
-    // every row of the cache is a line and its answer, and the kept bytes have no line feed
-    ghost invariant = { λ s. AreCachedAnswers s.snapshot s.cache × HoldsNo 10 s.kept.items };
+    // every row of the cache is a line and its answer, and the partial line has no line feed
+    ghost invariant = { λ s. AreCachedAnswers s.snapshot s.cache × HoldsNo 10 s.partial.items };
 }
 
 impl ContactStream {
     /// Makes a stream that answers with the mappings of the buffers, later ones after earlier ones.
     #[tactic(auto, using(crate::proofs::Streams::same_answers))]
     pub fn new(alloc: Global, buffers: &[&[u8]]) -> Result<ContactStream, AllocError>
-        ensures { IfOk result (λ s. (s.kept ≡ [])
+        ensures { IfOk result (λ s. (s.partial ≡ [])
             × ((t : Text) → answers s.mappings t ≡ answers_by (map (λ b. b.now) buffers.now) t)) }
     {
         Ok(ContactStream {
             snapshot: snapshot_of(alloc, buffers)?,
-            kept: Vec::new(alloc),
+            partial: Vec::new(alloc),
             cache: AnswerCache::new(alloc)?,
         })
     }
@@ -84,18 +84,25 @@ impl ContactStream {
     pub fn push(&mut self, part: &[u8], text: &mut Vec<u8>) -> Result<usize, AllocError>
         ensures takes { IfOk result (λ taken. (taken ≤ length part.now) × (0 < length part.now → 0 < taken)) }
         ensures answers { IfOk result (λ taken. (made : Text) × (text.new.items ≡ text.old.items ++ made)
-            × AnswersFront (answers self.old.mappings) (self.old.kept ++ take taken part.now) made self.new.kept) }
-        ensures keeps { OnOk result ((HoldsNo 10 self.old.kept → HoldsNo 10 self.new.kept)
+            × AnswersFront (answers self.old.mappings) (self.old.partial ++ take taken part.now) made
+            self.new.partial) }
+        ensures keeps { OnOk result ((HoldsNo 10 self.old.partial → HoldsNo 10 self.new.partial)
             × (self.new.mappings ≡ self.old.mappings)) }
         ensures err { OnErr result ((self.new ≡ self.old) × (text.new.items ≡ text.old.items)) }
     {
-        let (taken, _) = take_lines(&mut self.kept, part, &self.snapshot, &mut self.cache, text)?;
+        let (taken, _) = take_lines(
+            &mut self.partial,
+            part,
+            &self.snapshot,
+            &mut self.cache,
+            text,
+        )?;
         Ok(taken)
     }
 
     /// Appends the answer to a last line without a line feed, if there is one.
     pub fn finish(mut self, text: &mut Vec<u8>) -> Result<(), AllocError>
-        ensures ok { OnOk result (text.new.items ≡ text.old.items ++ answers self.mappings self.kept) }
+        ensures ok { OnOk result (text.new.items ≡ text.old.items ++ answers self.mappings self.partial) }
         ensures err { OnErr result (text.new.items ≡ text.old.items) }
     {
         self.finish_line(text)
@@ -105,21 +112,21 @@ impl ContactStream {
     /// line. If this fails, `text` and the stream stay as they were.
     #[tactic(auto, using(crate::proofs::Streams::finish_laws))]
     pub fn finish_line(&mut self, text: &mut Vec<u8>) -> Result<(), AllocError>
-        ensures ok { OnOk result (text.new.items ≡ text.old.items ++ answers self.old.mappings self.old.kept) }
-        ensures ended { OnOk result ((self.new.kept ≡ []) × (self.new.mappings ≡ self.old.mappings)) }
+        ensures ok { OnOk result (text.new.items ≡ text.old.items ++ answers self.old.mappings self.old.partial) }
+        ensures ended { OnOk result ((self.new.partial ≡ []) × (self.new.mappings ≡ self.old.mappings)) }
         ensures err { OnErr result ((self.new ≡ self.old) × (text.new.items ≡ text.old.items)) }
     {
-        if self.kept.is_empty() {
+        if self.partial.is_empty() {
             return Ok(());
         }
-        if text.is_empty() && is_own_answer(self.kept.as_slice()) {
+        if text.is_empty() && is_own_answer(self.partial.as_slice()) {
             // It may be very long, so it isn't copied.
-            self.kept.push(b'\n')?;
-            swap(&mut self.kept, text);
+            self.partial.push(b'\n')?;
+            swap(&mut self.partial, text);
             return Ok(());
         }
-        push_answers(text, &self.snapshot, self.kept.as_slice())?;
-        self.kept.clear();
+        push_answers(text, &self.snapshot, self.partial.as_slice())?;
+        self.partial.clear();
         Ok(())
     }
 }
@@ -127,24 +134,24 @@ impl ContactStream {
 // Does what `push` does. Also returns why it took no more.
 #[tactic(auto, using(crate::proofs::Streams::next))]
 fn take_lines(
-    kept: &mut Vec<u8>,
+    partial: &mut Vec<u8>,
     part: &[u8],
     snapshot: &Snapshot,
     cache: &mut AnswerCache,
     text: &mut Vec<u8>,
 ) -> Result<(usize, Stop), AllocError>
-    requires held { HoldsNo 10 kept.old.items }
+    requires held { HoldsNo 10 partial.old.items }
     requires cached { AreCachedAnswers snapshot.now cache.old }
-    ensures ok { IfOk result (λ taken. HasTaken snapshot.now kept.old.items part.now text.old.items taken.0
-        kept.new.items text.new.items) }
+    ensures ok { IfOk result (λ taken. HasTaken snapshot.now partial.old.items part.now text.old.items taken.0
+        partial.new.items text.new.items) }
     ensures enough { IfOk result (λ taken. taken.1 ≡ Enough
         → (taken.0 ≡ length part.now) ⊎ (65536 ≤ length text.new.items)) }
-    ensures err { OnErr result ((kept.new.items ≡ kept.old.items) × (text.new.items ≡ text.old.items)) }
+    ensures err { OnErr result ((partial.new.items ≡ partial.old.items) × (text.new.items ≡ text.old.items)) }
     ensures cache { AreCachedAnswers snapshot.now cache.new }
 {
-    let mut taken = take_line(kept, part, snapshot, cache, text)?;
+    let mut taken = take_line(partial, part, snapshot, cache, text)?;
     while taken < part.len() && text.len() < ENOUGH {
-        match take_line(kept, &part[taken..], snapshot, cache, text) {
+        match take_line(partial, &part[taken..], snapshot, cache, text) {
             Ok(count) => taken += count,
             Err(_) => return Ok((taken, Stop::OutOfMemory)),
         }
@@ -152,53 +159,54 @@ fn take_lines(
     Ok((taken, Stop::Enough))
 }
 
-// Takes the first line of a part with its line feed, and answers it. Without a line feed, keeps the whole part.
-#[tactic(auto, using(crate::proofs::Streams::part_kept))]
+// Takes the first line of a part with its line feed, and answers it. Without a line feed, the whole part goes to the
+// partial line.
+#[tactic(auto, using(crate::proofs::Streams::unended_taken))]
 fn take_line(
-    kept: &mut Vec<u8>,
+    partial: &mut Vec<u8>,
     part: &[u8],
     snapshot: &Snapshot,
     cache: &mut AnswerCache,
     text: &mut Vec<u8>,
 ) -> Result<usize, AllocError>
-    requires held { HoldsNo 10 kept.old.items }
+    requires held { HoldsNo 10 partial.old.items }
     requires cached { AreCachedAnswers snapshot.now cache.old }
-    ensures ok { IfOk result (λ taken. HasTaken snapshot.now kept.old.items part.now text.old.items taken
-        kept.new.items text.new.items) }
-    ensures err { OnErr result ((kept.new.items ≡ kept.old.items) × (text.new.items ≡ text.old.items)) }
+    ensures ok { IfOk result (λ taken. HasTaken snapshot.now partial.old.items part.now text.old.items taken
+        partial.new.items text.new.items) }
+    ensures err { OnErr result ((partial.new.items ≡ partial.old.items) × (text.new.items ≡ text.old.items)) }
     ensures cache { AreCachedAnswers snapshot.now cache.new }
 {
     let Some(feed) = part.find_byte(b'\n') else {
-        kept.extend_from_slice(part)?;
+        partial.extend_from_slice(part)?;
         return Ok(part.len());
     };
     let line = &part[..feed + 1];
-    end_line(kept, line, snapshot, cache, text)?;
+    end_line(partial, line, snapshot, cache, text)?;
     Ok(line.len())
 }
 
-// Answers the line that starts with the kept bytes and ends with `rest`, and keeps nothing. If this fails, the kept
-// bytes and the text stay as they were.
+// Ends the partial line by `rest`, and answers it. If this fails, the partial line and the text stay as they were.
 fn end_line(
-    kept: &mut Vec<u8>,
+    partial: &mut Vec<u8>,
     rest: &[u8],
     snapshot: &Snapshot,
     cache: &mut AnswerCache,
     text: &mut Vec<u8>,
 ) -> Result<(), AllocError>
     requires { AreCachedAnswers snapshot.now cache.old }
-    ensures ok { OnOk result (text.new.items ≡ text.old.items ++ answers snapshot.now (kept.old.items ++ rest.now)) }
-    ensures ended { OnOk result (kept.new.items ≡ []) }
-    ensures err { OnErr result ((kept.new.items ≡ kept.old.items) × (text.new.items ≡ text.old.items)) }
+    ensures ok { OnOk result (text.new.items
+        ≡ text.old.items ++ answers snapshot.now (partial.old.items ++ rest.now)) }
+    ensures ended { OnOk result (partial.new.items ≡ []) }
+    ensures err { OnErr result ((partial.new.items ≡ partial.old.items) × (text.new.items ≡ text.old.items)) }
     ensures cache { AreCachedAnswers snapshot.now cache.new }
 {
-    if kept.is_empty() {
+    if partial.is_empty() {
         return push_cached_answer(text, snapshot, cache, rest);
     }
-    let begun = kept.len();
-    kept.extend_from_slice(rest)?;
-    let pushed = push_joined_answer(text, snapshot, cache, kept.as_slice());
-    kept.truncate(if pushed.is_ok() { 0 } else { begun });
+    let begun = partial.len();
+    partial.extend_from_slice(rest)?;
+    let pushed = push_joined_answer(text, snapshot, cache, partial.as_slice());
+    partial.truncate(if pushed.is_ok() { 0 } else { begun });
     pushed
 }
 

@@ -49,13 +49,13 @@ fn look_up<'a>(
     let Ok(index) = find_email_counted(tables, email, steps) else {
         return None;
     };
-    let (own, names) = tables.email(index);
+    let (email_texts, names) = tables.email(index);
     let texts = match find_name_counted(tables, names, name, steps) {
         Ok(i) => names[i],
-        Err(_) => own,
+        Err(_) => email_texts,
     };
     let (new_name, new_email) = tables.fields(texts);
-    answer(tables, own.old(), new_name, new_email, email)
+    answer(tables, email_texts.old(), new_name, new_email, email)
 }
 
 // The answer from the stored fields, for an email that was looked up as `current_email`. Without a new email, the stored

@@ -8,10 +8,10 @@ loop-init g c = (begun (g.A.LineAnswers.answers c.args.answerer.now) (g.met.A.Li
 pub returns-then-count-eq0-clause-leaves : goal.returns-then-count-eq0-clause-leaves
 returns-then-count-eq0-clause-leaves g c =
     let h = c.loop.invariant.0 in
-    let kept = g.A.LineAnswers.kept c.loop.answerer in
+    let partial = g.A.LineAnswers.partial c.loop.answerer in
     let answers = g.A.LineAnswers.answers c.args.answerer.now in
-    let said : c.as_slice.result.now ≡ answers kept = c.as_slice.ensures.value ∙ c.in_ok-finish.ensures
-    ∙ ap (λ t. t ++ g.A.LineAnswers.answers c.loop.answerer kept) c.clear.ensures.items ∙ ap (λ f. f kept) c.loop.invariant.1 in
+    let said : c.as_slice.result.now ≡ answers partial = c.as_slice.ensures.value ∙ c.in_ok-finish.ensures
+    ∙ ap (λ t. t ++ g.A.LineAnswers.answers c.loop.answerer partial) c.clear.ensures.items ∙ ap (λ f. f partial) c.loop.invariant.1 in
     ended answers (g.met.A.LineAnswers.in_order c.args.answerer.now) h (g.R.Read.remaining c.read_part.new.reader) (g.W.Write.contents c.write_all.new.writer) c.write_all.result
     (rw c.if-count-eq0.true at c.in-Ok.ensures.part) (c.in-Ok.ensures.end c.if-count-eq0.true (search rules)) c.write_all.ensures.only (rw said at c.write_all.ensures.writes.ok) (rw said at c.write_all.ensures.writes.err)
 

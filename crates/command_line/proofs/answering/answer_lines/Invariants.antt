@@ -4,6 +4,6 @@ use Rattle.command_line.proofs.AnsweredLines.{HasReadParts}
 use Rattle.command_line.proofs.answering.answer_lines.Given as goal
 
 abbrev pub invariant-loop : goal.invariant-loop
-invariant-loop g l = HasReadParts (g.A.LineAnswers.answers l.fn.answerer) (g.A.LineAnswers.kept l.answerer)
+invariant-loop g l = HasReadParts (g.A.LineAnswers.answers l.fn.answerer) (g.A.LineAnswers.partial l.answerer)
     (g.R.Read.remaining l.fn.input) (g.R.Read.remaining l.input) (g.W.Write.contents l.fn.output) (g.W.Write.contents l.output)
     × (g.A.LineAnswers.answers l.answerer ≡ g.A.LineAnswers.answers l.fn.answerer)

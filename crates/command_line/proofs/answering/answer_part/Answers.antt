@@ -50,4 +50,4 @@ pub returns-clause-err : goal.returns-clause-err
 returns-clause-err g c =
     let h = rw (take_all c.loop-taken.taken c.args.part.now (omega arith)) at c.loop-taken.invariant.0 in
     let written = Appends-kept (g.W.Write.contents c.args.output.now) (g.W.Write.contents c.loop-taken.output) (g.W.Write.contents c.flush.new.writer) h.made h.is_made c.flush.ensures.keeps in
-    IfErr-weaker c.flush.result _ _ (λ e only. rw only (h.made, (g.A.LineAnswers.kept c.loop-taken.answerer, h.front), (length h.made, rw (take-length h.made) written))) c.flush.ensures.only
+    IfErr-weaker c.flush.result _ _ (λ e only. rw only (h.made, (g.A.LineAnswers.partial c.loop-taken.answerer, h.front), (length h.made, rw (take-length h.made) written))) c.flush.ensures.only

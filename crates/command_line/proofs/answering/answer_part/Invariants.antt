@@ -6,8 +6,8 @@ use Rattle.command_line.proofs.answering.answer_part.Given as goal
 
 abbrev pub invariant-loop-taken : goal.invariant-loop-taken
 invariant-loop-taken g l =
-    HasAnswered (g.A.LineAnswers.answers l.fn.answerer) (g.A.LineAnswers.kept l.fn.answerer) (take l.taken l.part)
-    (g.A.LineAnswers.kept l.answerer) (Appends (g.W.Write.contents l.fn.output) (g.W.Write.contents l.output))
+    HasAnswered (g.A.LineAnswers.answers l.fn.answerer) (g.A.LineAnswers.partial l.fn.answerer) (take l.taken l.part)
+    (g.A.LineAnswers.partial l.answerer) (Appends (g.W.Write.contents l.fn.output) (g.W.Write.contents l.output))
     × (g.A.LineAnswers.answers l.answerer ≡ g.A.LineAnswers.answers l.fn.answerer)
 
 abbrev pub decreases-loop-taken : goal.decreases-loop-taken

@@ -1,9 +1,9 @@
 use Rattle.std.proofs.Common.{◌∙◌, ◌++◌, ◌-◌, ◌+◌, ap, drop, length, take}
-use Rattle.command_line.proofs.Reading.{counted_up_to, kept_whole}
+use Rattle.command_line.proofs.Reading.{counted_up_to, unended_part}
 use Rattle.command_line.proofs.counting.add_part.Goals as goal
 
 pub returns-in_default : goal.returns-in_default
-returns-in_default c = λ read h. rw c.in_ok-extend_from_slice.ensures.items (kept_whole c.args.part.now h)
+returns-in_default c = λ read h. rw c.in_ok-extend_from_slice.ensures.items (unended_part c.args.part.now h)
 
 pub returns : goal.returns
 returns c = λ read h.

@@ -7,7 +7,7 @@ use Rattle.command_line.proofs.Reading.{all_given}
 use Rattle.command_line.proofs.counting.count_contacts.Goals as goal
 
 pub loop-init : goal.loop-init
-loop-init g c = ([], Consumes-nil (g.R.Read.remaining c.args.input.now), record { whole = []; ends = inl refl; is = sym c.new-kept.ensures.items; counted = rw lines-nil c.in_ok-contacts.ensures })
+loop-init g c = ([], Consumes-nil (g.R.Read.remaining c.args.input.now), record { whole = []; ends = inl refl; is = sym c.new-partial.ensures.items; counted = rw lines-nil c.in_ok-contacts.ensures })
 
 pub loop-preserved : goal.loop-preserved
 loop-preserved g c =
@@ -24,5 +24,5 @@ returns-then-count-eq0-clause-counts g c =
       h.0,
       all_given old later h.0 (rw (append-nil h.0) at (Consumes-trans old (g.R.Read.remaining c.loop.input) later h.0 [] h.1 none)) (c.in-Ok.ensures.end c.if-count-eq0.true (search rules)),
       c.in_ok-into_contacts.ensures (lines_of h.0)
-          (rw (h.2.is, lines_of-append h.2.whole c.loop.kept.items h.2.ends) (rw c.as_slice.ensures.value at (c.in_ok-add_lines.ensures (lines_of h.2.whole) h.2.counted))),
+          (rw (h.2.is, lines_of-append h.2.whole c.loop.partial.items h.2.ends) (rw c.as_slice.ensures.value at (c.in_ok-add_lines.ensures (lines_of h.2.whole) h.2.counted))),
     )

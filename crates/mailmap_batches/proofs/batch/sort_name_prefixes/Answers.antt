@@ -4,11 +4,11 @@ use Rattle.std.proofs.lemmas.List.Sorted.{answers_always}
 use Rattle.mailmap_entries.specs.Prefixes.{key_prefix}
 use Rattle.mailmap_entries.specs.Semantics.{Key}
 use Rattle.mailmap_batches.specs.Batches.{name_prefix}
-use Rattle.mailmap_batches.proofs.SortedGroups.{kept, kept_by}
+use Rattle.mailmap_batches.proofs.SortedRuns.{kept, kept_by}
 use Rattle.mailmap_batches.proofs.batch.sort_name_prefixes.Goals as goal
 
 pub returns-then-len-le-FEW : goal.returns-then-len-le-FEW
-returns-then-len-le-FEW c = kept c.args.group.now.items
+returns-then-len-le-FEW c = kept c.args.run.now.items
 
 pub returns : goal.returns
 returns c = kept_by nat_cmp_total name_prefix (λ p q e. ap (λ (j : Key). key_prefix 16 (unwrap_or j.1 [])) e) _ _

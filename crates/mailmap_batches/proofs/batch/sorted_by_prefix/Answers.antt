@@ -5,7 +5,7 @@ use Rattle.std.proofs.lemmas.List.Sorted.{IsNonDecreasingBy-from_sort_by_key, an
 use Rattle.mailmap_entries.specs.Prefixes.{key_prefix}
 use Rattle.mailmap_entries.specs.Semantics.{Key}
 use Rattle.mailmap_batches.specs.Batches.{email_prefix}
-use Rattle.mailmap_batches.proofs.SortedGroups.{kept_by}
+use Rattle.mailmap_batches.proofs.SortedRuns.{kept_by}
 use Rattle.mailmap_batches.proofs.batch.sorted_by_prefix.Goals as goal
 
 pub returns-clause-kept : goal.returns-clause-kept

@@ -2,7 +2,8 @@ use Rattle.std.proofs.Common.{◌≡◌, ◌<◌, ◌+◌, drop, true, false, le
 use Rattle.std.proofs.lemmas.List.{drop_all}
 use Rattle.mailmap_entries.specs.Semantics.{key}
 use Rattle.mailmap_redundancy.specs.Redundancy.{done}
-use Rattle.mailmap_redundancy.specs.Numbers.{IsNumbered, numbered_mapping, is_redundant, is_redundant_by, located_entry_of, located_mappings, said}
+use Rattle.mailmap_redundancy.specs.Summaries.{IsNumbered, numbered_mapping, is_redundant, located_mapping_of, located_mappings, summary_for}
+use Rattle.mailmap_redundancy.proofs.Redundant.{is_redundant_between}
 use Rattle.mailmap_redundancy.proofs.Rows.{ends, going, staying}
 use Rattle.mailmap_redundancy.proofs.passes.drop_redundant_once.Goals as goal
 use Rattle.mailmap_redundancy.proofs.passes.drop_redundant_once.Goals.{then-not-is_redundant+in_ok-push, else-not-is_redundant}
@@ -18,9 +19,9 @@ loop-x-preserved c =
     let heads = ends keys c.args.entries.now c.requires.numbered c.loop-x.x-index x within c.x-item.is n
     c.loop-x.later_ones.items c.loop-x.table c.loop-x.kept.items so c.pop.new.self.items c.in-Some.later
     c.in-Some.ensures.items in
-    let rest = said (located_mappings (drop (c.loop-x.x-index + 1) c.args.entries.now)) (key (numbered_mapping x)) in
-    let tested : c.is_redundant.result ≡ is_redundant (said kept (key (numbered_mapping x))) (located_entry_of x) rest =
-    c.is_redundant.ensures ∙ (λ i. is_redundant_by (c.summary.ensures keys kept n so.table i) (located_entry_of x) (heads.1 i)) in
+    let rest = summary_for (located_mappings (drop (c.loop-x.x-index + 1) c.args.entries.now)) (key (numbered_mapping x)) in
+    let tested : c.is_redundant.result ≡ is_redundant_between (summary_for kept (key (numbered_mapping x))) (located_mapping_of x) rest =
+    c.is_redundant.ensures ∙ (λ i. is_redundant (c.summary.ensures keys kept n so.table i) (located_mapping_of x) (heads.1 i)) in
     elim c.if-not-is_redundant.branch [
       | then-not-is_redundant+in_ok-push w ↦
           let works : c.is_redundant.result ≡ false = search rules in

@@ -2,7 +2,7 @@ use Rattle.std.proofs.lemmas.Grind.{common_steps}
 use Rattle.std.proofs.Common.{map, arith}
 use Rattle.std.proofs.lemmas.List.{length-map}
 use Rattle.mailmap_redundancy.specs.Redundancy.{located_of}
-use Rattle.mailmap_redundancy.specs.Numbers.{located_entry_of, located_mappings}
+use Rattle.mailmap_redundancy.specs.Summaries.{located_mapping_of, located_mappings}
 use Rattle.mailmap_redundancy.proofs.Rows.{further, over}
 use Rattle.mailmap_redundancy.proofs.passes.drop_until_stable.Goals as goal
 
@@ -13,4 +13,4 @@ pub returns-clause-effective : goal.returns-clause-effective
 returns-clause-effective c =
     let kept = c.loop-len.kept in
     over (map located_of c.args.entries.now) (located_mappings kept.items) c.loop-len.len c.loop-len.invariant.0
-    (omega (arith, length-map kept.items located_entry_of, c.len.ensures, kept.ok.0, c.loop-len-test.false))
+    (omega (arith, length-map kept.items located_mapping_of, c.len.ensures, kept.ok.0, c.loop-len-test.false))

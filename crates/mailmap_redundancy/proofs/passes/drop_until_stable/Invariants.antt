@@ -1,7 +1,7 @@
 use Rattle.std.proofs.Common.{map}
 use Rattle.std.specs.List.{All}
 use Rattle.mailmap_redundancy.specs.Redundancy.{located_of}
-use Rattle.mailmap_redundancy.specs.Numbers.{IsNumbered, located_mappings}
+use Rattle.mailmap_redundancy.specs.Summaries.{IsNumbered, located_mappings}
 use Rattle.mailmap_redundancy.proofs.Rows.{IsSettling}
 use Rattle.mailmap_redundancy.proofs.passes.drop_until_stable.Given as goal
 

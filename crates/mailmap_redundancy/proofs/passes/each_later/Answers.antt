@@ -1,5 +1,5 @@
 use Rattle.std.proofs.Common.{◌<◌, ◌-◌, [], ◌∷◌, ◌++◌, length, ap, sym, subst, arith, ◌∙◌}
-use Rattle.mailmap_redundancy.specs.Numbers.{IsNumbered, later_of, located_entry_of}
+use Rattle.mailmap_redundancy.specs.Summaries.{IsNumbered, later_of, located_mapping_of}
 use Rattle.mailmap_redundancy.proofs.Rows.{located_mappings_next}
 use Rattle.mailmap_redundancy.proofs.passes.each_later.Goals as goal
 
@@ -14,5 +14,5 @@ loop-left-preserved c =
       omega arith,
       rw next (c.prepend.ensures _ _ c.requires.ascending n table),
       rw (next, c.in_ok-push.ensures.items) (λ k. c.loop-left.invariant.2 k
-          ++ (c.of.ensures ∙ ap (later_of (located_entry_of x)) (c.summary.ensures _ _ n table)) k ∷ []),
+          ++ (c.of.ensures ∙ ap (later_of (located_mapping_of x)) (c.summary.ensures _ _ n table)) k ∷ []),
     )

@@ -1,5 +1,5 @@
 use Rattle.std.proofs.Common.{◌≡◌, ◌≤◌, drop, length}
-use Rattle.mailmap_redundancy.specs.Numbers.{IsTable, later_of_each, located_mappings}
+use Rattle.mailmap_redundancy.specs.Summaries.{IsTable, later_of_each, located_mappings}
 use Rattle.mailmap_redundancy.proofs.passes.each_later.Given as goal
 
 abbrev pub invariant-loop-left : goal.invariant-loop-left

@@ -2,7 +2,7 @@ use Rattle.std.proofs.Common.{ap, get_or}
 use Rattle.mailmap_entries.proofs.Alike.{alike_itself, alike_joined}
 use Rattle.mailmap_batches.specs.Batches.{mapping_at}
 use Rattle.mailmap_batches.specs.declared.indexed.IndexedEntry.{IndexedEntry}
-use Rattle.mailmap_tables.specs.Put.{with_email}
+use Rattle.mailmap_tables.specs.Put.{with_old_email}
 use Rattle.mailmap_tables.proofs.Merged.{one_item, one_put, put_alike}
 use Rattle.mailmap_tables.proofs.merge.put_group.Goals as goal
 
@@ -19,7 +19,7 @@ pub loop-i-preserved : goal.loop-i-preserved
 loop-i-preserved c =
     let put = c.in_ok-put_at.ensures.ok in
     record {
-      put = one_put (λ (p : IndexedEntry). with_email c.args.email.now (mapping_at p)) c.args.group.now _ _ _ _
+      put = one_put (λ (p : IndexedEntry). with_old_email c.args.email.now (mapping_at p)) c.args.group.now _ _ _ _
           (get_or c.args.group.now c.loop-i.i c.index-group-i.result) c.loop-i-test.true
           (ap (get_or c.args.group.now c.loop-i.i) c.index-group-i.is) c.loop-i.invariant.put put.put;
       found = put.found;

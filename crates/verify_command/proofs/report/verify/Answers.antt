@@ -1,6 +1,6 @@
 use Rattle.std.proofs.Common.{rules, ◌≡◌, List, ℕ, Bor, Vec, Global, map, subst}
 use Rattle.mailmap_findings.specs.Findings.{AreFindings}
-use Rattle.verify_command.specs.Report.{Says, finding_piece}
+use Rattle.verify_command.specs.Report.{Says, report_pieces}
 use Rattle.verify_command.specs.Settings.{choices_of, mailmap_names}
 use Rattle.verify_command.proofs.Leaving.{leaves_weaker}
 use Rattle.verify_command.proofs.report.verify.Goals as goal
@@ -16,5 +16,5 @@ returns-clause-leaves g c =
     leaves_weaker (λ o t says. (
       c.findings.result,
       are,
-      subst (λ n. Says o t (map (finding_piece choices n) c.findings.result)) names says,
+      subst (λ n. Says o t (report_pieces choices n c.findings.result)) names says,
     )) c.print_findings.ensures.leaves

@@ -8,4 +8,4 @@ use Rattle.mailmap_redundancy.proofs.effective.Effective.has_email.Goals as goal
 pub returns : goal.returns
 returns c =
     c.is_some.ensures ∙ is_some-option_map located_of_reference c.summary.result.of_email.first
-    ∙ ap (λ s. is_some s.spelling) c.summary.ensures.said ∙ effective_first _ _ c.summary.ensures.effective (folded c.args.email.now)
+    ∙ ap (λ s. is_some s.spelling) c.summary.ensures.summary ∙ effective_first _ _ c.summary.ensures.effective (folded c.args.email.now)

@@ -1,7 +1,7 @@
 use Rattle.std.proofs.Common.{rules}
 use Rattle.mailmap_entries.specs.Entries.{mapping_of}
 use Rattle.mailmap_entries.specs.Semantics.{Key, key}
-use Rattle.mailmap_redundancy.specs.Numbers.{IsPushed, email_key}
+use Rattle.mailmap_redundancy.specs.Summaries.{IsPushed, email_key}
 use Rattle.mailmap_redundancy.proofs.Numbered.{email_pushed, keeps, key_pushed}
 use Rattle.mailmap_redundancy.proofs.keys.AscendingKeys.add.Goals as goal
 

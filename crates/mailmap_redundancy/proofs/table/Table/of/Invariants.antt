@@ -1,5 +1,5 @@
 use Rattle.std.proofs.Common.{take}
-use Rattle.mailmap_redundancy.specs.Numbers.{IsTable, located_mappings}
+use Rattle.mailmap_redundancy.specs.Summaries.{IsTable, located_mappings}
 use Rattle.mailmap_redundancy.proofs.table.Table.of.Given as goal
 
 abbrev pub invariant-loop-x : goal.invariant-loop-x

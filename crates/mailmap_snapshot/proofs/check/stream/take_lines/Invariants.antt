@@ -5,7 +5,7 @@ use Rattle.mailmap_snapshot.proofs.check.stream.take_lines.Given as goal
 
 abbrev pub invariant-loop-taken : goal.invariant-loop-taken
 invariant-loop-taken l = record {
-  has_taken : HasTaken l.snapshot l.fn.kept.items l.part l.fn.text.items l.taken l.kept.items l.text.items;
+  has_taken : HasTaken l.snapshot l.fn.partial.items l.part l.fn.text.items l.taken l.partial.items l.text.items;
   cached : AreCachedAnswers l.snapshot l.cache;
 }
 

@@ -4,7 +4,7 @@ use Rattle.std.proofs.Common.{◌≡◌, option_map, arith}
 use Rattle.mailmap_entries.specs.Entries.{mapping_of}
 use Rattle.mailmap_entries.specs.Semantics.{Fields, new_fields}
 use Rattle.mailmap_entries.proofs.Results.{if_ok_map}
-use Rattle.mailmap_tables.specs.Pool.{IsRow, text_of}
+use Rattle.mailmap_tables.specs.Pool.{HasTexts, text_of}
 use Rattle.mailmap_tables.proofs.tables.Tables.append_entry.Goals as goal
 
 pub returns-clause-row : goal.returns-clause-row
@@ -19,5 +19,5 @@ returns-clause-row c =
     let email = c.given_or-2.ensures.text pool in
     let is : given ≡ new_fields (mapping_of c.args.entry.now) =
     grind (arith, common_steps, name, email, c.new_name.ensures, c.new_email.ensures, or-None) in
-    if_ok_map c.append_row.result (IsRow c.append_row.new.self.pool old given) _ (λ t row. rw is at row)
+    if_ok_map c.append_row.result (HasTexts c.append_row.new.self.pool old given) _ (λ t row. rw is at row)
     c.append_row.ensures.row

@@ -3,8 +3,8 @@ use Rattle.std.specs.List.{slice_get}
 use Rattle.std.proofs.lemmas.Result.{on_ok_weaker}
 use Rattle.mailmap_entries.specs.Entries.{mapping_of}
 use Rattle.mailmap_entries.specs.Semantics.{new_fields}
-use Rattle.mailmap_tables.specs.Pool.{fields_of, group_of, name_group}
-use Rattle.mailmap_tables.specs.Put.{said, spelled_name, with_email}
+use Rattle.mailmap_tables.specs.Pool.{fields_of, group_of, stored_name}
+use Rattle.mailmap_tables.specs.Put.{name_given, spelled_name, with_old_email}
 use Rattle.mailmap_tables.proofs.PutEntry.{fields_put, given_or, name_put, entry_paired, names_ascend}
 use Rattle.mailmap_tables.proofs.RowsOfPool.{name_of_row}
 use Rattle.mailmap_tables.proofs.tables.Tables.put_at.Goals as goal
@@ -12,7 +12,7 @@ use Rattle.mailmap_tables.proofs.tables.Tables.put_at.Goals as goal
 pub returns-in_default-clause-ok : goal.returns-in_default-clause-ok
 returns-in_default-clause-ok c =
     let a = c.args.self.now in
-    let m = with_email c.args.email.now (mapping_of c.args.entry.now) in
+    let m = with_old_email c.args.email.now (mapping_of c.args.entry.now) in
     let i = c.args.index in
     let g = group_of a.pool c.email.result.0 c.email.result.1.now in
     let read : slice_get a.groups i ≡ Some g = rw c.view-view.ensures at c.email.ensures.group in
@@ -26,7 +26,7 @@ returns-in_default-clause-ok c =
 
 pub place_of_name-place-requires-clause-ascending : goal.place_of_name-place-requires-clause-ascending
 place_of_name-place-requires-clause-ascending c =
-    let m = with_email c.args.email.now (mapping_of c.args.entry.now) in
+    let m = with_old_email c.args.email.now (mapping_of c.args.entry.now) in
     rw c.view-view.ensures (names_ascend m c.requires.groups c.args.index c.requires.found _
     (rw c.view-view.ensures at c.email.ensures.group))
 
@@ -36,13 +36,13 @@ append_entry-requires c = rw c.view-view.ensures at (c.name_at-old_name.ensures.
 pub returns-clause-ok : goal.returns-clause-ok
 returns-clause-ok c =
     let a = c.args.self.now in
-    let m = with_email c.args.email.now (mapping_of c.args.entry.now) in
+    let m = with_old_email c.args.email.now (mapping_of c.args.entry.now) in
     let name = c.in-Some.old_name.now in
     let place = rw c.view-view.ensures at c.place_of_name-place.ensures.place in
     let g = group_of a.pool c.email.result.0 c.email.result.1.now in
     let read : slice_get a.groups c.args.index ≡ Some g = rw c.view-view.ensures at c.email.ensures.group in
-    let row : name_group c.append_entry.new.self.pool c.in_ok-row-2.row
-    ≡ said (spelled_name g.names c.place_of_name-place.result name) m =
+    let row : stored_name c.append_entry.new.self.pool c.in_ok-row-2.row
+    ≡ name_given (spelled_name g.names c.place_of_name-place.result name) m =
     rw c.name_at-old_name.ensures.text at (name_of_row _ _ (new_fields m) c.in_ok-row-2.row c.in_ok-row-2.ensures.row) in
     let named = sym c.in-Some.ensures in
     on_ok_weaker c.place_name.result (λ d. rw (d g (rw c.append_entry.ensures.grown.1 read), row, c.append_entry.ensures.grown.1)

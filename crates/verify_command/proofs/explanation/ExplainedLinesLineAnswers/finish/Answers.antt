@@ -8,4 +8,4 @@ pub returns : goal.returns
 returns c =
     let g = c.args.self.now.explainer in
     on_ok_weaker c.push_explained_line.result
-    (λ is. is ∙ ap (λ t. c.args.text.now.items ++ t) (ap (explained_line g) c.as_slice.ensures.value ∙ sym (last_line g c.args.self.now.kept.items c.requires))) c.push_explained_line.ensures.ok
+    (λ is. is ∙ ap (λ t. c.args.text.now.items ++ t) (ap (explained_line g) c.as_slice.ensures.value ∙ sym (last_line g c.args.self.now.partial.items c.requires))) c.push_explained_line.ensures.ok

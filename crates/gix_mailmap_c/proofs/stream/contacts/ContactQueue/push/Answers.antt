@@ -9,7 +9,7 @@ returns-clause-ok c =
     let read = c.self.inside.read in
     let new = c.push.new.self in
     let more = c.in_ok-taken.ensures.answers in
-    let after : Pending = record { mappings = new.mappings; kept = new.kept; unread = drop read c.push.new.text.items } in
+    let after : Pending = record { mappings = new.mappings; partial = new.partial; unread = drop read c.push.new.text.items } in
     subst (λ (p : Pending). HasTakenOf c.args.part.now c.in_ok-taken.taken p after) c.self.view_is (record {
       within = c.in_ok-taken.ensures.takes.0;
       some = c.in_ok-taken.ensures.takes.1;
@@ -17,5 +17,5 @@ returns-clause-ok c =
       mappings = c.in_ok-taken.ensures.keeps.1;
       unread = ap (drop read) more.1 ∙ drop-append-le read c.self.inside.answers.items more.0 c.self.invariant;
       front = more.2;
-      kept = c.in_ok-taken.ensures.keeps.0;
+      partial = c.in_ok-taken.ensures.keeps.0;
     })

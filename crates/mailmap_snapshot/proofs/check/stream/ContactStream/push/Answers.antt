@@ -16,4 +16,4 @@ returns-clause-keeps c = rw (← c.self.view_is) ((λ _. c.in_ok-taken.ensures.o
 pub returns-in_err-taken-clause-err : goal.returns-in_err-taken-clause-err
 returns-in_err-taken-clause-err c =
     let same = c.in_err-taken.ensures.err in
-    on_err c.from_residual.result _ (ap (λ (l : List ℕ). record { mappings = c.self.inside.snapshot; kept = l }) same.0 ∙ c.self.view_is, same.1)
+    on_err c.from_residual.result _ (ap (λ (l : List ℕ). record { mappings = c.self.inside.snapshot; partial = l }) same.0 ∙ c.self.view_is, same.1)

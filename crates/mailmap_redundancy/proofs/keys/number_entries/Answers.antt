@@ -1,11 +1,11 @@
 use Rattle.std.proofs.Common.{map, refl, subst, sym, arith}
 use Rattle.mailmap_batches.specs.Batches.{IsSorted, indexed_mapping}
-use Rattle.mailmap_redundancy.proofs.Numbered.{all_numbered, none_walked, reached, row_within, said, walked}
-use Rattle.mailmap_redundancy.proofs.keys.number.Goals as goal
+use Rattle.mailmap_redundancy.proofs.Numbered.{all_numbered, none_walked, reached, row_within, entry_mappings, walked}
+use Rattle.mailmap_redundancy.proofs.keys.number_entries.Goals as goal
 
 pub loop-at-init : goal.loop-at-init
 loop-at-init c = none_walked _ _ _ _ c.in_ok-with_capacity.ensures.items c.requires.located
-    (subst (λ l. IsSorted (said c.args.entries.now) (map indexed_mapping l)) (sym c.deref-at-items.ensures.value)
+    (subst (λ l. IsSorted (entry_mappings c.args.entries.now) (map indexed_mapping l)) (sym c.deref-at-items.ensures.value)
     c.in_ok-order.ensures)
 
 pub add-requires-clause-up : goal.add-requires-clause-up

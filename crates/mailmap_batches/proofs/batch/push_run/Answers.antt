@@ -3,7 +3,7 @@ use Rattle.std.proofs.lemmas.Grind.{common_steps}
 use Rattle.std.proofs.lemmas.List.{get_or-drop, length-drop, take_more}
 use Rattle.mailmap_batches.specs.InOrder.{in_order}
 use Rattle.mailmap_batches.specs.declared.indexed.IndexedEntry.{IndexedEntry}
-use Rattle.mailmap_batches.proofs.batch.push_group.Goals as goal
+use Rattle.mailmap_batches.proofs.batch.push_run.Goals as goal
 
 -- one more of the elements from the index s on
 pushed : (xs : List IndexedEntry) (s e : ℕ) (x : IndexedEntry) → s ≤ e → e < length xs → x ≡ get_or xs e x
@@ -17,7 +17,7 @@ loop-end-init c =
     record {
       after = omega arith;
       within = omega (arith, c.requires.start);
-      group = grind (arith, common_steps, c.in_ok-push.ensures.items, c.requires.empty, one);
+      run = grind (arith, common_steps, c.in_ok-push.ensures.items, c.requires.empty, one);
       same = λ k d e. grind (arith, e, c.prefix-prefix.ensures d);
     }
 
@@ -31,6 +31,6 @@ loop-end-preserved c =
     record {
       after = omega (arith, inv.after);
       within = omega (arith, lt);
-      group = c.in_ok-push-2.ensures.items ∙ ap (λ l. l ++ c.entry-in-loop-end.result ∷ []) inv.group ∙ one;
+      run = c.in_ok-push-2.ensures.items ∙ ap (λ l. l ++ c.entry-in-loop-end.result ∷ []) inv.run ∙ one;
       same = λ k d e. grind (arith, e, c.prefix.ensures d, c.if-prefix.true);
     }

@@ -1,5 +1,5 @@
--- A batch that is sorted by prefix, and then within each group of entries with the same prefix: `group_sorted` is for the
--- loop of `sorted_groups`, `by_names` for `sort_group`, and `sorted_from` for `sorted`.
+-- A batch that is sorted by prefix, and then within each run of entries with the same prefix: `run_sorted` is for the
+-- loop of `sorted_runs`, `by_names` for `sort_run`, and `sorted_from` for `sorted`.
 use Rattle.std.proofs.Common.{◌≡◌, ◌<◌, ◌≤◌, ◌-◌, ◌+◌, ℕ, true, false, List, [], ◌∷◌, ◌++◌}
 use Rattle.std.proofs.Common.{All, map, take, drop, get_or, length, Option, Ordering, Equal, Greater, refl, sym}
 use Rattle.std.proofs.Common.{ap, ap₂, subst, subst₂, ◌∙◌, arith, length-drop}
@@ -28,7 +28,7 @@ use Rattle.mailmap_entries.proofs.Alike.{picked-append}
 use Rattle.mailmap_entries.proofs.Keys.{keys_total}
 use Rattle.mailmap_entries.proofs.Parts.{all_append, all_mapped}
 use Rattle.mailmap_entries.proofs.Prefixes.{prefix_less}
-use Rattle.mailmap_batches.specs.Batches.{IsAscending, IsSorted, IsSortedFrom, KeepsOrder, email_at, email_prefix, indexed_mapping}
+use Rattle.mailmap_batches.specs.Batches.{IsWeaklySortedBy, IsSorted, IsSortedFrom, KeepsOrder, folded_email_at, email_prefix, indexed_mapping}
 use Rattle.mailmap_batches.specs.Batches.{key_at, mapping_at}
 use Rattle.mailmap_batches.specs.declared.indexed.IndexedEntry.{IndexedEntry}
 use Rattle.mailmap_batches.proofs.Numbered.{ascending_from, mapped_twice, numbered}
@@ -78,7 +78,7 @@ module _ {K : Type 0} {R : K → K → Ordering} (o : IsTotalOrder R) (by : Inde
       let compares = answers_always _ _ _ (λ f a r f' called. ap is_lt (says f a r f' called)) in
       (kept_by (stable _ (ranks_by o by) compares), sorted _ (ranks_by o by) compares)
 
--- ---- one group after another
+-- ---- one run after another
 
 abbrev IsNotBelow : IndexedEntry → IndexedEntry → Type 0
 IsNotBelow q p = is_lt (key_cmp (key_at q) (key_at p)) ≡ false
@@ -87,8 +87,8 @@ IsNotBelow q p = is_lt (key_cmp (key_at q) (key_at p)) ≡ false
 abbrev IsAtMost : List IndexedEntry → IndexedEntry → Type 0
 IsAtMost ys p = All (λ q. IsNotBelow q p) ys
 
-ascending_join : (xs ys : List IndexedEntry) → IsAscending key_cmp (map key_at xs) → IsAscending key_cmp (map key_at ys)
-    → All (IsAtMost ys) xs → IsAscending key_cmp (map key_at (xs ++ ys))
+ascending_join : (xs ys : List IndexedEntry) → IsWeaklySortedBy key_cmp (map key_at xs) → IsWeaklySortedBy key_cmp (map key_at ys)
+    → All (IsAtMost ys) xs → IsWeaklySortedBy key_cmp (map key_at (xs ++ ys))
 ascending_join [] ys s t a = t
 ascending_join (x ∷ xs) ys s t a =
     let above = all_mapped key_at (λ k. is_lt (key_cmp k (key_at x)) ≡ false) ys
@@ -107,13 +107,13 @@ sorted_joined xs ys xs' ys' s t a = record {
 }
 
 abbrev pub HasBytes : IndexedEntry → Type 0
-HasBytes p = AreBytes (email_at p)
+HasBytes p = AreBytes (folded_email_at p)
 
 -- an entry with a greater prefix is not below one with a smaller
 greater_key : (p q : IndexedEntry) → HasBytes p → HasBytes q → email_prefix p < email_prefix q → IsNotBelow q p
 greater_key p q a b lt =
-    let x = email_at p in
-    let y = email_at q in
+    let x = folded_email_at p in
+    let y = folded_email_at q in
     let above : text_cmp y x ≡ Greater =
     nat_list_cmp_total.antisymm y x ∙ ap ordering_reverse (prefix_less 16 x y a b lt) in
     ap (λ o. is_lt (ordering_then o (option_cmp text_cmp (key_at q).1 (key_at p).1))) above
@@ -137,16 +137,16 @@ pub record IsSortedTo (e : ℕ) (xs ys : List IndexedEntry) : Type 0 where
   pub sorted : IsSortedFrom (take e xs) ys
   pub apart : All (IsAtMost (drop e xs)) (take e xs)
 
--- one more group is sorted, from the index a to e
-pub group_sorted : (xs ys group : List IndexedEntry) (a e : ℕ) → a < e → e ≤ length xs → All HasBytes xs
+-- one more run is sorted, from the index a to e
+pub run_sorted : (xs ys run : List IndexedEntry) (a e : ℕ) → a < e → e ≤ length xs → All HasBytes xs
     → IsNonDecreasingBy email_prefix xs
     → ((d : IndexedEntry) → e < length xs → email_prefix (get_or xs (e - 1) d) < email_prefix (get_or xs e d))
-    → IsSortedTo a xs ys → IsSortedFrom (mid_of a (e - a) xs) group → IsSortedTo e xs (ys ++ group)
-group_sorted xs ys group a e lt le bytes ascending greater before sorted =
+    → IsSortedTo a xs ys → IsSortedFrom (mid_of a (e - a) xs) run → IsSortedTo e xs (ys ++ run)
+run_sorted xs ys run a e lt le bytes ascending greater before sorted =
     let mid = mid_of a (e - a) xs in
     let parts : take a xs ++ mid ≡ take e xs = grind (arith, take-add a (e - a) xs) in
     record {
-      sorted = subst (λ l. IsSortedFrom l (ys ++ group)) parts (sorted_joined (take a xs) mid ys group before.sorted sorted
+      sorted = subst (λ l. IsSortedFrom l (ys ++ run)) parts (sorted_joined (take a xs) mid ys run before.sorted sorted
           (All-weaker (IsAtMost (drop a xs)) (IsAtMost mid)
           (λ p. All-take (λ q. IsNotBelow q p) (e - a) (drop a xs)) (take a xs) before.apart));
       apart = rises_at xs e (omega (arith, lt)) le bytes ascending greater;
@@ -166,20 +166,20 @@ none_sorted xs = record {
 -- ---- the entries of one email, by name
 
 pub ascending_by_key : (xs : List IndexedEntry) → IsSortedByKey key_at key_cmp xs
-    → IsAscending key_cmp (map key_at xs)
+    → IsWeaklySortedBy key_cmp (map key_at xs)
 ascending_by_key xs sorted = ascending_from key_cmp key_at xs (sorted_far _ (ranks_by keys_total key_at) xs sorted)
 
 abbrev pub name_at : IndexedEntry → Option Text
 name_at p = (key_at p).1
 
 pub by_names : (first : IndexedEntry → IndexedEntry) (xs : List IndexedEntry)
-    → ((d : IndexedEntry) → All (λ p. email_at p ≡ email_at (first d)) xs)
+    → ((d : IndexedEntry) → All (λ p. folded_email_at p ≡ folded_email_at (first d)) xs)
     → IsSortedByKey name_at (option_cmp text_cmp) xs → IsSortedByKey key_at key_cmp xs
 by_names first xs one sorted k d low lt =
     let p = get_or xs k d in
     let q = get_or xs (k + 1) d in
-    let tied : text_cmp (email_at q) (email_at p) ≡ Equal =
-    ap₂ text_cmp (one d (k + 1) d lt) (one d k d (omega arith)) ∙ tied_itself nat_list_cmp_total (email_at (first d)) in
+    let tied : text_cmp (folded_email_at q) (folded_email_at p) ≡ Equal =
+    ap₂ text_cmp (one d (k + 1) d lt) (one d k d (omega arith)) ∙ tied_itself nat_list_cmp_total (folded_email_at (first d)) in
     ap (λ o. is_lt (ordering_then o (option_cmp text_cmp (name_at q) (name_at p)))) tied ∙ sorted k d low lt
 
 -- ---- all entries
@@ -195,10 +195,8 @@ sorted_from xs old mid new is first sorted =
     mapped_twice indexed_mapping (λ p. p.1) in
     let whole = kept_then first sorted.kept in
     record {
-      keeps = record {
-        moved = subst (λ l. IsPermutation l (map indexed_mapping new)) is (IsPermutation-map indexed_mapping old new whole.moved);
-        keyed = λ k. ap (λ l. of_key l k) (sym (numbered 0 xs) ∙ ap (map (λ p. p.1)) (sym is) ∙ says old) ∙ whole.keyed k
-            ∙ ap (λ l. of_key l k) (sym (says new));
-      };
-      ascending = subst (IsAscending key_cmp) (sym (mapped_twice indexed_mapping (λ p. key p.1) new)) sorted.ascending;
+      moved = subst (λ l. IsPermutation l (map indexed_mapping new)) is (IsPermutation-map indexed_mapping old new whole.moved);
+      keyed = λ k. ap (λ l. of_key l k) (sym (numbered 0 xs) ∙ ap (map (λ p. p.1)) (sym is) ∙ says old) ∙ whole.keyed k
+          ∙ ap (λ l. of_key l k) (sym (says new));
+      ascending = subst (IsWeaklySortedBy key_cmp) (sym (mapped_twice indexed_mapping (λ p. key p.1) new)) sorted.ascending;
     }

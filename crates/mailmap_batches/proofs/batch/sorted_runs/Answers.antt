@@ -2,8 +2,8 @@ use Rattle.std.proofs.Common.{◌≡◌, ◌++◌, ◌-◌, ap, drop, length, le
 use Rattle.std.proofs.lemmas.List.Sorted.{length_permutation}
 use Rattle.mailmap_batches.specs.Batches.{IsSortedFrom, KeepsOrder}
 use Rattle.mailmap_batches.specs.InOrder.{in_order}
-use Rattle.mailmap_batches.proofs.SortedGroups.{IsSortedTo, group_sorted, kept_then, none_sorted}
-use Rattle.mailmap_batches.proofs.batch.sorted_groups.Goals as goal
+use Rattle.mailmap_batches.proofs.SortedRuns.{IsSortedTo, run_sorted, kept_then, none_sorted}
+use Rattle.mailmap_batches.proofs.batch.sorted_runs.Goals as goal
 
 pub loop-start-init : goal.loop-start-init
 loop-start-init c =
@@ -14,22 +14,22 @@ pub loop-start-preserved : goal.loop-start-preserved
 loop-start-preserved c =
     let xs = in_order c.args.entries.now in
     let end = c.in_ok-end.ensures in
-    let group = c.sort_group.new.group.items in
-    let sorted = c.in_ok-sort_group.ensures in
+    let run = c.sort_run.new.run.items in
+    let sorted = c.in_ok-sort_run.ensures in
     subst (IsSortedTo c.in_ok-end.end xs)
     (sym (c.in_ok-extend_from_slice.ensures.items ∙ ap (λ l. c.loop-start.batch.items ++ l) c.deref.ensures.value))
-    (group_sorted xs c.loop-start.batch.items group c.loop-start.start c.in_ok-end.end end.after
+    (run_sorted xs c.loop-start.batch.items run c.loop-start.start c.in_ok-end.end end.after
     end.within c.requires.bytes c.requires.ascending end.greater c.loop-start.invariant (record {
-      kept = subst (λ l. KeepsOrder l group) end.group (kept_then c.sort_name_prefixes.ensures sorted.kept);
+      kept = subst (λ l. KeepsOrder l run) end.run (kept_then c.sort_name_prefixes.ensures sorted.kept);
       ascending = sorted.ascending;
     }))
 
-pub sort_group-requires : goal.sort_group-requires
-sort_group-requires c =
+pub sort_run-requires : goal.sort_run-requires
+sort_run-requires c =
     let xs = in_order c.args.entries.now in
     let end = c.in_ok-end.ensures in
     let n = c.in_ok-end.end - c.loop-start.start in
-    let some : length c.push_group.new.group.items ≡ n = ap length end.group
+    let some : length c.push_run.new.run.items ≡ n = ap length end.run
     ∙ length-take-le n (drop c.loop-start.start xs) (omega (arith, length-drop c.loop-start.start xs, end.within, end.after)) in
     omega (arith, length_permutation _ _ c.sort_name_prefixes.ensures.moved, some, end.after)
 

@@ -1,4 +1,4 @@
--- What entries say of keys and emails, the numbers of these, and tables with a row for each number.
+-- Summaries of the entries for a key and an email, the numbers of keys, and tables with a summary for each number.
 use Rattle.std.specs.Prelude.{nat_eq, ◌≡◌, ◌<◌, ◌⊎◌, ◌&&◌, ◌||◌, ◌-◌, Bool, false, if◌then◌else◌, true, List, [], ◌∷◌, ◌++◌, ℕ, Option, Some, None, Contains, is_some, map, length, unwrap_or}
 use Rattle.std.specs.Borrow.{Bor}
 use Rattle.std.specs.Option.{option_and_then, option_copied, option_map, option_or}
@@ -37,58 +37,58 @@ origins_of g = record { name = referred g.name; email = referred g.email; spelli
 abbrev pub numbered_mapping : NumberedEntry → Mapping
 numbered_mapping x = mapping_of x.located.now.entry
 
-abbrev pub located_entry_of : NumberedEntry → LocatedMapping
-located_entry_of x = located_of x.located.now
+abbrev pub located_mapping_of : NumberedEntry → LocatedMapping
+located_mapping_of x = located_of x.located.now
 
 abbrev pub located_mappings : List NumberedEntry → List LocatedMapping
-located_mappings xs = map located_entry_of xs
+located_mappings xs = map located_mapping_of xs
 
 -- ---- the entries that matter
 
 -- of a key: the first, the last with a new name, the last with a new email, and the last
-pub record KeyOrigins : Type 0 where
+pub record KeySummary : Type 0 where
   pub first : Option LocatedMapping
   pub name : Option LocatedMapping
   pub email : Option LocatedMapping
   pub last : Option LocatedMapping
 
-abbrev pub key_origins : List LocatedMapping → KeyOrigins
-key_origins xs = record {
+abbrev pub key_summary : List LocatedMapping → KeySummary
+key_summary xs = record {
   first = first xs;
   name = last_with (λ e. e.new_name) xs;
   email = last_with (λ e. e.new_email) xs;
   last = last xs;
 }
 
-abbrev pub key_origins_of : KeyEntries → KeyOrigins
-key_origins_of s =
+abbrev pub key_summary_of : KeyEntries → KeySummary
+key_summary_of s =
     record { first = referred s.first; name = referred s.name; email = referred s.email; last = referred s.last }
 
 -- what a range of entries says of a key and of its email
-pub record Said : Type 0 where
-  pub of_key : KeyOrigins
+pub record Summary : Type 0 where
+  pub of_key : KeySummary
   pub spelling : Option LocatedMapping
 
 -- the key has the entries in the first list, and its email those in the second
-abbrev pub said_by : List LocatedMapping → List LocatedMapping → Said
-said_by keyed mailed = record { of_key = key_origins keyed; spelling = first mailed }
+abbrev pub summary_by : List LocatedMapping → List LocatedMapping → Summary
+summary_by keyed mailed = record { of_key = key_summary keyed; spelling = first mailed }
 
-abbrev pub said : List LocatedMapping → Key → Said
-said xs k = said_by (entries_of_key xs k) (entries_of_email xs k.0)
+abbrev pub summary_for : List LocatedMapping → Key → Summary
+summary_for xs k = summary_by (entries_of_key xs k) (entries_of_email xs k.0)
 
 abbrev pub first_of : EmailEntries → Option LocatedMapping
 first_of s = referred s.first
 
-abbrev pub said_of : SummaryEntries → Said
-said_of s = record { of_key = key_origins_of s.of_key; spelling = first_of s.of_email }
+abbrev pub summary_of : SummaryEntries → Summary
+summary_of s = record { of_key = key_summary_of s.of_key; spelling = first_of s.of_email }
 
 -- what one entry says of its own key and email
-abbrev pub said_of_one : LocatedMapping → Said
-said_of_one x = said_by (x ∷ []) (x ∷ [])
+abbrev pub summary_of_one : LocatedMapping → Summary
+summary_of_one x = summary_by (x ∷ []) (x ∷ [])
 
--- of a range followed by another
-abbrev pub joined_said : Said → Said → Said
-joined_said a b = record {
+-- the summary of a range followed by another
+abbrev pub joined_summary : Summary → Summary → Summary
+joined_summary a b = record {
   of_key = record {
     first = option_or a.of_key.first b.of_key.first;
     name = option_or b.of_key.name a.of_key.name;
@@ -99,15 +99,15 @@ joined_said a b = record {
 }
 
 -- the entries that give a key with or without an old name its new name and its new email
-abbrev pub name_origin : Bool → KeyOrigins → Option LocatedMapping
+abbrev pub name_origin : Bool → KeySummary → Option LocatedMapping
 name_origin is_named s = if is_named then s.last else s.name
 
-abbrev pub email_origin : Bool → KeyOrigins → Option LocatedMapping
+abbrev pub email_origin : Bool → KeySummary → Option LocatedMapping
 email_origin is_named s = if is_named then s.last else s.email
 
--- the value of a key with or without an old name, of which this is said
-abbrev pub value_said : Bool → Said → Mapping
-value_said is_named s = record {
+-- the value that a summary gives to a key with or without an old name
+abbrev pub value_from : Bool → Summary → Mapping
+value_from is_named s = record {
   new_name = option_and_then (λ x. x.entry.new_name) (name_origin is_named s.of_key);
   new_email = option_and_then (λ x. x.entry.new_email) (email_origin is_named s.of_key);
   old_name = if is_named then option_and_then (λ x. x.entry.old_name) s.of_key.first else None;
@@ -122,11 +122,11 @@ value_of v = record {
   old_email = v.old_email.now;
 }
 
--- what the redundancy of x depends on in the entries after it, which say this
-abbrev pub later_of : LocatedMapping → Said → Later
+-- what the redundancy of x depends on in the entries after it, whose summary this is
+abbrev pub later_of : LocatedMapping → Summary → Later
 later_of x after =
     let is_named = is_some (key x.entry).1 in
-    let value = value_said is_named after in
+    let value = value_from is_named after in
     record {
       has_key = is_some after.of_key.last;
       overrides_name = is_some (name_origin is_named after.of_key);
@@ -141,25 +141,23 @@ keeps_new_fields later with_x without = (later.overrides_name || same_optional w
     && (later.overrides_email || same_optional with_x.new_email without.new_email)
 
 -- an earlier entry spells the old name and the email, or the next one spells them alike
-abbrev pub keeps_spellings : Later → Said → Bool
+abbrev pub keeps_spellings : Later → Summary → Bool
 keeps_spellings later before = (is_some before.of_key.first || later.same_old_name)
     && (is_some before.spelling || later.same_old_email)
 
--- without x between what is said before it and what comes later, its key is still there, and has the same value
-abbrev pub is_redundant_by : Said → LocatedMapping → Later → Bool
-is_redundant_by before x later =
+-- without x, the entries before and after it still have its key, with the same value
+abbrev pub is_redundant : Summary → LocatedMapping → Later → Bool
+is_redundant before x later =
     let is_named = is_some (key x.entry).1 in
     (later.has_key || is_some before.of_key.last)
-    && (keeps_new_fields later (value_said is_named (joined_said before (said_of_one x))) (value_said is_named before)
+    && (keeps_new_fields later (value_from is_named (joined_summary before (summary_of_one x)))
+    (value_from is_named before)
     && keeps_spellings later before)
-
-abbrev pub is_redundant : Said → LocatedMapping → Said → Bool
-is_redundant before x after = is_redundant_by before x (later_of x after)
 
 -- what matters of those after each entry of a list; the last entry's comes first
 abbrev pub later_of_each : List LocatedMapping → List Later
 later_of_each [] = []
-later_of_each (x ∷ xs) = later_of_each xs ++ later_of x (said xs (key x.entry)) ∷ []
+later_of_each (x ∷ xs) = later_of_each xs ++ later_of x (summary_for xs (key x.entry)) ∷ []
 
 -- ---- numbers
 
@@ -204,14 +202,14 @@ pub record IsKnown (keys : List Key) (x : LocatedMapping) : Type 0 where
   pub of_email : Contains keys (email_key (key x.entry).0)
   pub accepted : is_accepted x.entry ≡ true
 
--- the row at the number of x has the view f x
+-- for each x whose key has a number, there is a row at that number, and its view is f x
 abbrev pub IsTableOf : {X Y Z : Type 0} → List Key → (X → Key) → (X → Y) → (Z → Y) → List Z → Type 0
 IsTableOf {X} {Y} {Z} keys key_of f view rows = (x : X) (i : ℕ) → IsNumber keys (key_of x) i
     → (i < length rows) × ((d : Z) → view (slice_index_or rows i d) ≡ f x)
 
 -- each row refers to the entries of xs that matter for its key, or for its email
 pub record IsTable (keys : List Key) (xs : List LocatedMapping) (t : Table) : Type 0 where
-  pub of_keys : IsTableOf keys (λ k. k) (λ k. key_origins (entries_of_key xs k)) key_origins_of t.key_summaries.items
+  pub of_keys : IsTableOf keys (λ k. k) (λ k. key_summary (entries_of_key xs k)) key_summary_of t.key_summaries.items
   pub of_emails : IsTableOf keys email_key (λ email. first (entries_of_email xs email)) first_of t.email_summaries.items
   pub known : AllByRecursion (IsKnown keys) xs
 

@@ -1,7 +1,7 @@
 use Rattle.std.proofs.Common.{◌-◌, length}
 use Rattle.mailmap_batches.specs.InOrder.{in_order}
-use Rattle.mailmap_batches.proofs.SortedGroups.{IsSortedTo}
-use Rattle.mailmap_batches.proofs.batch.sorted_groups.Given as goal
+use Rattle.mailmap_batches.proofs.SortedRuns.{IsSortedTo}
+use Rattle.mailmap_batches.proofs.batch.sorted_runs.Given as goal
 
 abbrev pub decreases-loop-start : goal.decreases-loop-start
 decreases-loop-start l = length (in_order l.entries) - l.start
