@@ -5,4 +5,4 @@ use Rattle.mailmap_batches.specs.declared.batch.InOrder.{InOrder}
 
 abbrev pub in_order : InOrder → List IndexedEntry
 in_order (InOrder.Given entries) = entries.now
-in_order (InOrder.Sorted entries) = entries.now
+in_order (InOrder.SortedByPrefix entries) = entries.now

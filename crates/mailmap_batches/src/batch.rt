@@ -34,7 +34,10 @@ pub fn sorted<'e, 'a, T: HasEntry<'a>>(
     if batch.is_sorted_by_key(email_prefix) {
         return sorted_runs(alloc, &InOrder::Given(&batch));
     }
-    sorted_runs(alloc, &InOrder::Sorted(&sorted_by_prefix(alloc, batch)?))
+    sorted_runs(
+        alloc,
+        &InOrder::SortedByPrefix(&sorted_by_prefix(alloc, batch)?),
+    )
 }
 
 // The entries with their indexes. The clause `bytes` is for the lemma that texts with unequal prefixes are in the order
@@ -89,7 +92,7 @@ fn sorted_by_prefix<'e, 'a>(
 #[derive(Clone, Copy)]
 enum InOrder<'s, 'e, 'a> {
     Given(&'s [IndexedEntry<'e, 'a>]),
-    Sorted(&'s [PrefixedEntry<'e, 'a>]),
+    SortedByPrefix(&'s [PrefixedEntry<'e, 'a>]),
 }
 
 impl<'e, 'a> InOrder<'_, 'e, 'a> {
@@ -98,7 +101,7 @@ impl<'e, 'a> InOrder<'_, 'e, 'a> {
     {
         match *self {
             InOrder::Given(entries) => entries.len(),
-            InOrder::Sorted(entries) => entries.len(),
+            InOrder::SortedByPrefix(entries) => entries.len(),
         }
     }
 
@@ -108,7 +111,7 @@ impl<'e, 'a> InOrder<'_, 'e, 'a> {
     {
         match *self {
             InOrder::Given(entries) => email_prefix(at(entries, index)),
-            InOrder::Sorted(entries) => stored_prefix(at(entries, index)),
+            InOrder::SortedByPrefix(entries) => stored_prefix(at(entries, index)),
         }
     }
 
@@ -118,7 +121,7 @@ impl<'e, 'a> InOrder<'_, 'e, 'a> {
     {
         match *self {
             InOrder::Given(entries) => *at(entries, index),
-            InOrder::Sorted(entries) => indexed_entry(at(entries, index)),
+            InOrder::SortedByPrefix(entries) => indexed_entry(at(entries, index)),
         }
     }
 }

@@ -1,5 +1,5 @@
 -- What each request makes `mailmap_verify` print, and how it can fail.
-use Rattle.std.specs.Prelude.{◌≡◌, ◌⊎◌, ◌<◌, ⊤, Bool, true, false, length, List, [], ◌∷◌, ◌++◌, Option, Some, None, IfErr, IfOk, IfSome, Result, codes, map}
+use Rattle.std.specs.Prelude.{◌≡◌, ◌⊎◌, ◌<◌, ⊤, Bool, true, false, length, List, [], ◌∷◌, ◌++◌, Option, Some, None, IfErr, IfOk, IfSome, Result, codes}
 use Rattle.std.specs.Result.{IsErr, IsErrOf}
 use Rattle.std.specs.declared.io.ErrorKind.{ErrorKind}
 use Rattle.mailmap_entries.specs.Folding.{Text}
