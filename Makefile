@@ -1,9 +1,10 @@
-# make run             maps the sample contacts, using the sample mailmap
-# make test            proves and builds everything, and runs all tests
+# make run             maps the sample contacts with the sample mailmap, before any proof;
+#                      make run MAILMAP=FILE CONTACTS=FILE: others
+# make build           proves and builds the programs
+# make test            proves and builds all that is shipped, and runs all tests
 # make gate            proves all crates and their tests, and tries the mutants; only what changed since the last gate
 #                      on this machine, and the crates above it
 # make cases SEED=1    makes the stored cases of the tests again
-# make build           the programs
 # make lib             the libraries for C
 # make extension       the extension module for Python, in python/gix_mailmap
 # make wheel           a wheel of the package for Python, in dist
@@ -53,13 +54,18 @@ PROVE = packaging/prove.py
 build:
 	$(PROVE) mailmap_check mailmap_verify mailmap_shortlog
 
-# all that the tests need: the programs, also mailmap_dump, which prints in hex, and the proved functions for C
+# all that the tests need: the programs, also mailmap_dump, which prints in hex, and out_of_memory, which makes the
+# library's calls, and the proved functions for C
 proved:
-	$(PROVE) mailmap_check mailmap_verify mailmap_shortlog mailmap_dump gix_mailmap_c
+	$(PROVE) mailmap_check mailmap_verify mailmap_shortlog mailmap_dump out_of_memory gix_mailmap_c
 
+# The names of the files are read from the environment, where make puts them unchanged.
+export MAILMAP ?= sample/mailmap
+export CONTACTS ?= sample/contacts
 run:
-	$(PROVE) mailmap_check
-	$(PROGRAM) sample/mailmap < sample/contacts
+	@echo 'Compiling mailmap_check, which takes up to a minute. Nothing is proved yet: make build proves and builds it.'
+	@mailmap=$$(realpath -- "$$MAILMAP") && contacts=$$(realpath -- "$$CONTACTS") && cd crates/mailmap_check && \
+	    rt try --data mailmap="$$mailmap" -- mailmap < "$$contacts"
 
 lib: $(LIB)/c/libgix_mailmap.a $(LIB)/c/$(SHARED)
 

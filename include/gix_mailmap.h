@@ -21,7 +21,7 @@
  * A text, a buffer or an array of length 0 may be NULL. So a call with an argument `needed` can be made with NULL and 0
  * for its buffer first. It returns GIX_MAILMAP_TOO_SHORT, or GIX_MAILMAP_OK if nothing is needed, and with these two
  * statuses `needed` says how much is needed. On GIX_MAILMAP_OUT_OF_MEMORY it is 0. On GIX_MAILMAP_UNWRITABLE, which
- * only gix_mailmap_write returns, it is an index.
+ * only gix_mailmap_write returns, it is the place of an entry.
  *
  *     size_t needed;
  *     if (gix_mailmap_compact(text, text_len, NULL, 0, &needed) == GIX_MAILMAP_OUT_OF_MEMORY)
@@ -212,8 +212,8 @@ gix_mailmap_status gix_mailmap_entry(const gix_mailmap *map, size_t index,
 
 /* Writes the mailmap as a text, from which gix_mailmap_open makes the same mailmap: a line for each entry, in the order
  * of gix_mailmap_list. Each line begins with a space, so that a name such as `#1` doesn't make it a comment. `needed`
- * is the length of the text, and 0 on OUT_OF_MEMORY. On UNWRITABLE it is the index of the first entry that can't be
- * written as a line. Only gix_mailmap_add_entry adds such entries.
+ * is the length of the text, and 0 on OUT_OF_MEMORY. On UNWRITABLE it is the place in the list, counted from 0, of the
+ * first entry that can't be written as a line. Only gix_mailmap_add_entry adds such entries.
  * OK; TOO_SHORT; OUT_OF_MEMORY; UNWRITABLE. */
 gix_mailmap_status gix_mailmap_write(const gix_mailmap *map, char *GIX_MAILMAP_RESTRICT out, size_t out_len,
                                      size_t *GIX_MAILMAP_RESTRICT needed)

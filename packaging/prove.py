@@ -25,10 +25,10 @@ from pathlib import Path
 TOP = Path(__file__).resolve().parents[1]
 # the parts of a crate that a proof reads
 PARTS = ("src", "specs", "proofs")
-# A proof uses all processors that rt gives it, but only one while it reads the crates below. Others fill these gaps at
-# lower priority. The crate that the longest chain of crates waits for comes first.
+# Crates side by side, one job each, use the processors best; a crate gets more jobs where no other is ready. The crate
+# that the longest chain of crates waits for comes first.
 PROCESSORS = len(os.sched_getaffinity(0))
-AT_A_TIME = max(2, PROCESSORS - 1)
+MOST_JOBS = 4
 FOUND = re.compile(r"so far: (\d+) of (\d+) functions checked")
 PROVED = re.compile(r"^logic=proved functions=(\d+)", re.MULTILINE)
 
@@ -51,9 +51,9 @@ def lines_by_crate(text):
 
 
 class Crate:
-    def __init__(self, line, uses):
+    def __init__(self, line, uses, of_kit):
         name, *kind = line.partition(":")[0].split()
-        self.name, self.line, self.uses = name, line, uses
+        self.name, self.line, self.uses, self.of_kit = name, line, uses, of_kit
         self.is_static = "staticlib" in kind
         self.folder = TOP / "crates" / name
         self.is_program = (self.folder / "src/main.rt").is_file()
@@ -74,8 +74,9 @@ def read_crates():
 
     def crate(name):
         if name not in crates:
-            uses = [crate(used) for used in lines[name].partition(":")[2].split() if used in lines]
-            crates[name] = Crate(lines[name], uses)
+            words = lines[name].partition(":")[2].split()
+            of_kit = [used for used in words if used not in lines]
+            crates[name] = Crate(lines[name], [crate(used) for used in words if used in lines], of_kit)
         return crates[name]
 
     for name in lines:
@@ -138,7 +139,7 @@ def follow(running, crate, log):
                 crate.progress = f"{crate.name} {found[1]} of {found[2]}"
 
 
-def prove(crate, known, version, is_first):
+def prove(crate, known, version, jobs):
     """Proves a crate. Returns whether that succeeded, and a message."""
     begun, sum = time.monotonic(), digest(crate, known)
     crate.progress = crate.name
@@ -149,8 +150,8 @@ def prove(crate, known, version, is_first):
         out.mkdir(exist_ok=True)
         for stale in "proved", crate.name:
             (out / stale).unlink(missing_ok=True)
-        words = [] if is_first else ["nice", "-n", "10"]
-        words += ["rt", "run", "--", "--help"] if crate.is_program else ["rt", "lib"]
+        words = ["rt", "run" if crate.is_program else "lib", "--jobs", str(jobs)]
+        words += ["--", "--help"] if crate.is_program else []
         try:
             with subprocess.Popen(
                 words, cwd=out.parent, stdin=subprocess.DEVNULL, stdout=subprocess.PIPE, stderr=subprocess.STDOUT,
@@ -204,15 +205,17 @@ def prove_all(crates, known, version):
     above = {crate.name: [other for other in crates if crate in other.uses] for crate in crates}
     length = {crate.name: chain(crate, above) for crate in crates}
     waiting = sorted(crates, key=lambda crate: -length[crate.name])
-    report, running, failed = Report(len(crates)), {}, []
-    with ThreadPoolExecutor(AT_A_TIME) as pool:
+    report, running, jobs, failed = Report(len(crates)), {}, {}, []
+    with ThreadPoolExecutor(PROCESSORS) as pool:
         while running or waiting and not failed:
             unproved = {*waiting, *running.values(), *failed}
             ready = [crate for crate in waiting if not unproved & {*crate.uses}] if not failed else []
-            for crate in ready[: AT_A_TIME - len(running)]:
+            idle = PROCESSORS - sum(jobs[crate] for crate in running.values())
+            for left, crate in zip(range(len(ready), 0, -1), ready[:idle]):
+                jobs[crate] = max(1, min(MOST_JOBS, idle // left))
+                idle -= jobs[crate]
                 waiting.remove(crate)
-                is_first = all(length[crate.name] >= length[other.name] for other in running.values())
-                running[pool.submit(prove, crate, known, version, is_first)] = crate
+                running[pool.submit(prove, crate, known, version, jobs[crate])] = crate
             for ended in wait(running, timeout=1, return_when=FIRST_COMPLETED).done:
                 crate = running.pop(ended)
                 is_proved, what = ended.result()
@@ -228,11 +231,17 @@ def main(names):
     unknown = [name for name in names if name not in crates]
     if unknown or not names:
         sys.exit(f"prove: no crate {unknown[0]} in crates.txt" if unknown else __doc__)
-    version, known, wanted = kit(), {}, []
+    version, known, todo = kit(), {}, []
+
+    def need(crate):
+        """Adds a crate that isn't proved, after those that it uses."""
+        if crate not in todo and not is_done(crate, known, version):
+            for used in crate.uses:
+                need(used)
+            todo.append(crate)
+
     for name in names:
-        for crate in [*sorted(crates[name].below(), key=lambda each: len(each.below())), crates[name]]:
-            wanted += [crate] * (crate not in wanted)
-    todo = [crate for crate in wanted if not is_done(crate, known, version)]
+        need(crates[name])
     if todo and not version:
         sys.exit(f"prove: {todo[0].name} has to be proved, and there is no toolchain here (rt)")
     if todo:

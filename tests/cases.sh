@@ -22,5 +22,6 @@ if [ $# = 1 ]; then
     original/cases.py "$oracle" "$1"
 else
     model/cases.py --check
+    [ "$status" = 0 ] || echo 'skipped: the answers of the original, since there is no program over it here'
     original/cases.py --check $oracle
 fi

@@ -26,7 +26,8 @@ done
 refused 'make deb without debhelper' 2 'make deb: no debhelper here' \
     env PATH="$work/tools" "$make" --no-print-directory -s -C "$top" -o build -o lib -o extension deb DIST="$work/none"
 if [ -z "$(command -v dh)" ] || ! dpkg-checkbuilddeps "$top/debian/control"; then
-    echo 'debian: a build dependency is missing here, so no Debian package is built'
+    echo 'skipped: the Debian packages, since a build dependency is not here'
+    echo 'debian: 1 passed, 0 failed'
     exit 0
 fi
 
@@ -57,7 +58,7 @@ same 'who made the packages' "$(sed -n 's/^Changed-By: //p' "$work/again/"*.chan
 if [ -n "$(command -v lintian)" ]; then
     lintian --allow-root --fail-on error,warning "$work/deb/gix-mailmap_${version}_amd64.changes"
 else
-    echo 'debian: no lintian here, so it does not judge the packages'
+    echo 'skipped: what lintian says of the packages, since it is not here'
 fi
 
 # unpacked
@@ -103,7 +104,10 @@ in_copy() {
 export -f copy_of_system in_copy
 export top work
 if ! unshare --mount bash -ec 'in_copy dpkg --version' > "$work/said" 2>&1; then
-    echo 'debian: no copy of this system can be mounted, as root can, so the packages are not installed'
+    echo 'skipped: the installed packages, since no copy of this system can be mounted, as root can'
+    echo 'debian: 2 passed, 0 failed'
     exit 0
 fi
 unshare --mount bash -ec 'in_copy /opt/tests/debian_installed.sh'
+# what is named and refused, the packages, and the installed ones
+echo 'debian: 3 passed, 0 failed'

@@ -3,6 +3,9 @@
 # fail. Also checks their usage and version, and runs of 200,000 lines and more, which must succeed. A failed run must
 # end with status 2, with its message on standard error, and with nothing on standard output except the answers to the
 # lines before the failure. No run may take long: one that repeats a failed write forever would not end.
+#
+# Only here memory runs out as it does for users: for an input, or what is made of it, that is larger than what the
+# system grants. refusals.py refuses single requests, wherever they are.
 set -euo pipefail
 here="$(cd "$(dirname "$0")" && pwd)"
 work="$(mktemp -d)"

@@ -12,7 +12,8 @@ for page in *.1; do
     elif [ -n "$(command -v man)" ]; then
         said="$(man --warnings -E UTF-8 -l "$page" 2>&1 > /dev/null)" || said="${said:-man: status $?}"
     else
-        echo 'manual pages: neither mandoc nor man here'
+        echo 'skipped: the manual pages, since neither mandoc nor man is here'
+        echo 'manual pages: 0 passed, 0 failed'
         exit 0
     fi
     if [ -n "$said" ]; then

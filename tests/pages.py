@@ -2,9 +2,9 @@
 """Checks that everything that the pages name exists.
 
 In all pages: files, links, laws, commands of the Makefile, crates. In docs/MODEL.md: the files of definitions, what the
-sections on definitions define, each function with its clauses and each mutant or test in the table of promises. In
-docs/ARCHITECTURE.md: the arrows of the graph, which are those of crates.txt, and the modules of the table. In these two
-and in CONTRIBUTING.md: all other names in code.
+sections on definitions define, each function with its clauses and each mutant or test in the table of promises, where
+each mutant is in one row. In docs/ARCHITECTURE.md: the arrows of the graph, which are those of crates.txt, and the
+modules of the table. In these two and in CONTRIBUTING.md: all other names in code.
 """
 import re
 import sys
@@ -93,7 +93,8 @@ def model(sources):
     definitions, promises = text.split("## Texts")[1].split("## Promises")
     for name in set(re.findall(r"^- `(\w+)", definitions, re.MULTILINE)) - sources.defined:
         yield f"no definition {name}"
-    for _, contracts, tests in table("## Promises" + promises, "## Promises"):
+    rows = table("## Promises" + promises, "## Promises")
+    for _, contracts, tests in rows:
         for function, clauses in re.findall(r"`([\w:]+)`(?: \(([^)]*)\))?", contracts):
             if function not in sources.clauses:
                 yield f"no function {function}"
@@ -101,6 +102,9 @@ def model(sources):
                 yield f"{function} has no clause {clause}"
         for test in set(re.findall(r"`([a-z0-9]+(?:_[a-z0-9]+){2,})`", tests)) - sources.mutants - sources.names:
             yield f"no mutant or test {test}"
+    for mutant in sources.mutants:
+        if (count := sum(f"`{mutant}`" in tests for *_, tests in rows)) != 1:
+            yield f"{count} rows have the mutant {mutant}"
     yield from unknown(re.sub(r"^\|.*$", "", text, flags=re.MULTILINE), sources)
 
 

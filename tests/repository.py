@@ -33,5 +33,9 @@ class Repository:
                               capture_output=True, check=True, env=QUIET).stdout
 
 
-def has_git() -> bool:
-    return shutil.which("git") is not None
+def has_git(what: str) -> bool:
+    """Whether git is here. If it isn't, prints that `what` is skipped."""
+    if shutil.which("git") is None:
+        print(f"skipped: {what}, since git is not here")
+        return False
+    return True

@@ -32,7 +32,7 @@ if [ -n "$(command -v rt)" ]; then
     same "the Python program, with $flags," "$(PYTHONPATH="$lto/package" python3 "$lto/example.py")" \
         "$(cat "$lto/printed")"
 else
-    echo 'ship: no toolchain here, so flags for optimization at link time are not tried'
+    echo 'skipped: flags for optimization at link time, since the toolchain is not here'
 fi
 
 without_toolchain
@@ -147,6 +147,6 @@ if python3 -m venv "$work/venv" 2> "$work/said" && [ -x "$work/venv/bin/pip" ]; 
     "$work/venv/bin/python" -m pip --quiet --disable-pip-version-check install --no-index "$work/$name"/*.whl
     same 'the wheel' "$(cd "$work" && venv/bin/python page/example.py)" "$(cat "$work/page/printed")"
 else
-    echo 'ship: no pip here, so the wheel is not tried'
+    echo 'skipped: the wheel of the tarball, since pip is not here'
 fi
 echo "ship: $name.tar.gz passed"

@@ -96,7 +96,7 @@ page_programs_answer() {
         read -r -a built <<< "$(pkg-config --cflags --libs gix_mailmap)"
         same "$what: pkg-config" "$(pkg-config --modversion gix_mailmap)" "$(cat "$top/VERSION")"
     else
-        echo "$what: no pkg-config here"
+        echo "skipped: $what: what pkg-config says, since it is not here"
         built=("-I$include" "-L$libdir" -lgix_mailmap)
     fi
     "$cc" "${flags[@]}" "$page/example.c" "${built[@]}" -o "$page/shared"

@@ -103,16 +103,15 @@ def answered_again(check: str) -> None:
         wants(f"{len(contacts)} bytes", (ended.returncode, ended.stdout, ended.stderr), (0, answers, b""))
 
 
-def as_git(check: str) -> bool:
+def as_git(check: str) -> None:
     """Compares the answers for a repository's contacts with those of `git log` and of `git check-mailmap`."""
-    if not has_git():
-        return False
+    if not has_git("streamed contacts beside git"):
+        return
     repository = Repository(Path("repository"))
     contacts = repository.git(["log", "--format=%an <%ae>", "main"])
     ended = subprocess.run([check, repository.mailmap], input=contacts, capture_output=True)
     wants("git log", ended.stdout, repository.git(["log", "--format=%aN <%aE>", "main"]))
     wants("git check-mailmap", ended.stdout, repository.git(["check-mailmap", "--stdin"], contacts))
-    return True
 
 
 def peak(command: list[str], count: int) -> int:
@@ -163,10 +162,9 @@ def main() -> None:
                 raise Failed(f"{mode}: a million contacts take {mebibytes(many)}, and {SHORT} take {mebibytes(few)}")
             peaks.append(mebibytes(many))
         answered_again(check)
-        git = as_git(check)
+        as_git(check)
         os.chdir("/")
-    print(f"streams: each line is answered before the next, and a million contacts take {' and '.join(peaks)}"
-          f"{'; git answers the same' if git else '; git is not here'}")
+    print(f"streams: each line is answered before the next, and a million contacts take {' and '.join(peaks)}")
 
 
 try:

@@ -50,15 +50,14 @@ if "${CC:-cc}" -fsyntax-only "$work/there.c" 2> /dev/null; then
     elif [ "$(version "$work/table")" = "$(version "$stored")" ]; then
         same "$stored" "$work/table" 'other answers'
     else
-        echo "beside libgit2: stored for $(version "$stored"), and this is $(version "$work/table"), so its answers aren't compared"
+        echo "skipped: the answers of libgit2, since $(version "$work/table") is here, and not $(version "$stored")"
         without_libgit2 "$stored" > "$work/stored_here"
         without_libgit2 "$work/table" > "$work/answered_here"
         same "$work/stored_here" "$work/answered_here" 'other answers'
     fi
 else
-    echo 'beside libgit2: no libgit2 here, so only the stored table is compared with docs/C.md'
+    echo 'skipped: the answers of libgit2, since it is not here'
 fi
 sed 1d "$stored" > "$work/rows"
 table_of_page > "$work/shown"
 same "$work/rows" "$work/shown" 'docs/C.md has another table'
-echo 'beside libgit2: passed'

@@ -1,5 +1,6 @@
 /* Calls every function of gix_mailmap.h so that it returns each of its statuses. malloc, realloc and free are wrapped
- * (-Wl,--wrap), so that each request for memory can fail in turn, and leaks are found. */
+ * (-Wl,--wrap), so that each request for memory can fail in turn, and leaks are found. Only this shows the status of a
+ * refused call from C, and that handles stay as they were. */
 #include "gix_mailmap.h"
 #include <malloc.h>
 #include <stdio.h>

@@ -40,7 +40,7 @@ for compiler in gcc clang; do
         done
         reads "$compiler" -std=c11 -Wno-unused "$work/fragments.c"
     else
-        echo "the header: no $compiler here"
+        echo "skipped: the header by $compiler, since it is not here"
     fi
 done
 for compiler in g++ clang++; do
@@ -48,6 +48,8 @@ for compiler in g++ clang++; do
         for standard in c++11 c++17; do
             reads "$compiler" -x c++ "-std=$standard" "$header"
         done
+    else
+        echo "skipped: the header by $compiler, since it is not here"
     fi
 done
 
@@ -121,7 +123,7 @@ tests
 if [ -n "$(command -v valgrind)" ]; then
     valgrind --quiet --leak-check=full --error-exitcode=1 "$work/calls"
 else
-    echo 'calls from C: no memcheck here'
+    echo 'skipped: calls from C under memcheck, since valgrind is not here'
 fi
 
 # No contract says that a call succeeds if there is memory, so the tests must fail if one never does.
@@ -149,7 +151,7 @@ sanitizers=(-fsanitize=address,undefined -fno-sanitize-recover=all)
 if has "${sanitizers[@]}"; then
     tests "${sanitizers[@]}"
 else
-    echo 'calls from C: no sanitizers here'
+    echo 'skipped: calls from C under the sanitizers, since the compiler has none here'
 fi
 
 threads
@@ -157,19 +159,21 @@ threads
 if has -fsanitize=thread; then
     threads -fsanitize=thread
 else
-    echo 'threads: no thread sanitizer here'
+    echo 'skipped: threads under the thread sanitizer, since the compiler has none here'
 fi
 if [ -n "$(command -v valgrind)" ]; then
     threads -O1
     valgrind --quiet --tool=helgrind --error-exitcode=1 "$work/threads" 4 1
 else
-    echo 'threads: no helgrind here'
+    echo 'skipped: threads under helgrind, since valgrind is not here'
 fi
 
 if [ -n "$(command -v c++)" ]; then
     c++ "${strict[@]}" "$here/uses.cpp" "$library/libgix_mailmap.a" -o "$work/uses"
     "$work/uses"
     echo 'calls from C++: passed'
+else
+    echo 'skipped: calls from C++, since there is no C++ compiler here'
 fi
 
 "$here/beside_libgit2.sh" "$library"

@@ -74,7 +74,7 @@ def unreadable():
     try:
         subprocess.run([CHECK, "--help"], stdout=subprocess.DEVNULL, check=True, **other)
     except (OSError, subprocess.SubprocessError) as failure:
-        return f"skipped: a file that others can't read, since no other user can run a program here ({failure})"
+        return f"skipped: a file without permissions, since no other user can run a program here ({failure})"
     wants_failure("a file without permissions", b"unreadable", b"Permission denied", **other)
     return f"a file without permissions, named in {len(WAYS)} ways: each failure names it"
 

@@ -2,7 +2,7 @@
 
 The definitions are in `specs` of `mailmap_redundancy` (`Origins`), `mailmap_findings` (`Explanations`, `Needs`,
 `Remarks`), `contact_counter` (`Contacts`), `mailmap_contacts` (`Proper`, `Comparisons`), `mailmap_suggestions`
-(`Counted`) and `verify_command` (`Explained`, `Report`).
+(`Counted`) and `mailmap_report` (`Explained`, `Report`).
 """
 from typing import NamedTuple
 

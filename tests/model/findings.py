@@ -1,7 +1,7 @@
 """The model of `mailmap_verify` and `--prune`.
 
 The definitions are in `specs` of `mailmap_redundancy` (`Origins`), `mailmap_findings` (`Findings`, `Explanations`) and
-of `verify_command` (`Kinds`, `Report`).
+of `mailmap_report` (`Kinds`, `Report`).
 """
 from typing import NamedTuple
 

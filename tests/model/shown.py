@@ -1,6 +1,6 @@
 """The model of how reports show texts: what is escaped, and where long texts are cut.
 
-The definitions are in `specs` of `command_line` (`Shown`) and of `verify_command` (`Report`).
+The definitions are in `specs` of `command_line` (`Shown`) and of `mailmap_report` (`Report`).
 """
 # the longest text that a finding shows whole
 LIMIT = 256

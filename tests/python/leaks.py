@@ -11,7 +11,9 @@ import sys
 import gix_mailmap
 from gix_mailmap import Entry, Error, Mailmap, _native
 
-CALLS = int(sys.argv[1]) if sys.argv[1:] else 1_000_000
+# Before calls are counted: more than the lines that are cached.
+WARM = 7_000
+CALLS = int(sys.argv[1]) if sys.argv[1:] else 100_000
 MAP = "Jane Doe <jane@x> <jd@y>\nJörg <joe@x>\n"
 BYTES = MAP.encode()
 LONG = "n" * 1000
@@ -104,7 +106,7 @@ def calls():
     }
 
 
-# Each takes a megabyte of the library.
+# Each takes a megabyte of the library, so fewer calls have to do.
 FEWER = {
     "map_contacts": lambda: list(Mailmap(MAP).map_contacts(["a", "jd <jd@y>\n"])),
     "suggest": lambda: gix_mailmap.suggest([("own", MAP)], "jane <jane@x>\nJane <jane@x>"),
@@ -123,7 +125,7 @@ def counts():
 def leak(call, times):
     """What many calls leak: the most references to one object, blocks of Python, and bytes of malloc."""
     repeat = lambda: [None for _ in itertools.repeat(None, times) if call() is AssertionError]
-    for _ in itertools.repeat(None, 7000):
+    for _ in itertools.repeat(None, min(WARM, times)):
         call()
     before = counts()
     repeat()
@@ -135,7 +137,7 @@ def leak(call, times):
 def main():
     failed, functions = 0, calls()
     most = [(*one, CALLS) for one in functions.items()]
-    for name, call, times in most + [(*one, CALLS // 100) for one in FEWER.items()]:
+    for name, call, times in most + [(*one, CALLS // 50) for one in FEWER.items()]:
         references, blocks, size = leak(call, times)
         # Allocators may keep memory for later requests, so small numbers are no leak. A leak is a block for each call.
         if max(references, blocks, size // 16) * 10 > times:

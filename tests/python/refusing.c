@@ -1,40 +1,9 @@
-/* A module for Python that refuses one request for memory of a call. It is preloaded, so that its malloc, calloc and
- * realloc replace those of the C library; with PYTHONMALLOC=malloc, Python gets all memory from these. */
+/* A module for Python that refuses one request for memory of a call. It is preloaded; with PYTHONMALLOC=malloc, Python
+ * gets all memory by ../refusing.h. */
 #define Py_LIMITED_API 0x030B0000
 #define PY_SSIZE_T_CLEAN
 #include <Python.h>
-#include <errno.h>
-
-void *__libc_malloc(size_t size);
-void *__libc_calloc(size_t count, size_t size);
-void *__libc_realloc(void *at, size_t size);
-
-/* how many requests are still granted, or less than 0 if all are; and whether one was refused */
-static long granted = -1;
-static int refused;
-
-static int is_refused(void)
-{
-    if (granted < 0 || granted-- > 0)
-        return 0;
-    errno = ENOMEM;
-    return refused = 1;
-}
-
-void *malloc(size_t size)
-{
-    return is_refused() ? NULL : __libc_malloc(size);
-}
-
-void *calloc(size_t count, size_t size)
-{
-    return is_refused() ? NULL : __libc_calloc(count, size);
-}
-
-void *realloc(void *at, size_t size)
-{
-    return is_refused() ? NULL : __libc_realloc(at, size);
-}
+#include "../refusing.h"
 
 /* call(number, function, arguments): whether the request of this number was refused, what the call returned, and the
  * error that it raised. */

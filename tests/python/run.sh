@@ -1,18 +1,9 @@
 #!/usr/bin/env bash
-# Tests the package for Python over the static library in the folder that the first argument names: from a wheel that is
-# installed into a fresh environment of each Python from 3.11 on that is installed, and from the source tree. Then tests
-# the package under the address sanitizer, with each request for memory refused in turn, and with many calls of each
-# function, to find leaks. Answers are compared with those of libgit2, if pygit2 is installed, and mypy checks the
-# package, if it is installed.
+# Tests the package for Python over the static library in the folder that the first argument names: from a wheel that
+# is installed into a fresh environment of each Python from 3.11 on that is installed, and from the source tree. Answers
+# are compared with those of libgit2, if pygit2 is installed, and mypy checks the package, if it is installed.
 set -euo pipefail
-here="$(cd "$(dirname "$0")" && pwd)"
-top="$(cd "$here/../.." && pwd)"
-library="$(cd "$1" && pwd)/libgix_mailmap.a"
-work="$(mktemp -d)"
-trap 'rm -rf "$work"' EXIT
-export PYTHONDONTWRITEBYTECODE=1 PIP_DISABLE_PIP_VERSION_CHECK=1 SOURCE_DATE_EPOCH=315532800
-unset PYTHONPATH PYTHON
-export GIX_MAILMAP_LIBRARY="$library"
+. "$(dirname "$0")/setting.sh"
 
 # With a symbolic link in this folder, `rt ci` would refuse to start, so `make lib` must make none.
 links="$(find "$top" -name .git -prune -o -type l -print)"
@@ -21,9 +12,7 @@ if [ -n "$links" ]; then
     exit 1
 fi
 
-# The Python that builds, as the Makefile finds it, and all that are installed from 3.11 on, each version once.
-builder="$(make --no-print-directory -s -C "$top" which_python)"
-export SETUP_PYTHON="$builder"
+# all that are installed from 3.11 on, each version once
 pythons() {
     local python
     for python in /usr/bin/python3 python3 python3.{11..19} "${PYENV_ROOT:-$HOME/.pyenv}"/versions/*/bin/python3; do
@@ -46,20 +35,19 @@ tests() {
 }
 
 # one wheel as pip builds it, and one as make does
-cd "$work"
 if "$builder" -m pip --version > "$work/said" 2>&1; then
     "$builder" -m pip --quiet wheel --no-index --no-deps --no-build-isolation --wheel-dir wheels/1 "$top"
 else
-    echo 'Python: no pip here'
+    echo 'skipped: the wheel that pip builds, since pip is not here'
 fi
 make --no-print-directory -s -C "$top" wheel DIST="$work/wheels/2"
 
 first=''
-for python in $(pythons); do
-    version="$("$python" --version)"
+for each in $(pythons); do
+    version="$("$each" --version)"
     echo "Python: the wheel, by $version"
     venv="$work/${version// /-}"
-    "$python" -m venv "$venv"
+    "$each" -m venv "$venv"
     "$venv/bin/python" -m pip --quiet install --no-index --no-deps wheels/2/*.whl
     "$venv/bin/python" -m pip check
     tests "$venv/bin/python"
@@ -71,12 +59,12 @@ echo 'Python: the source tree'
 make --no-print-directory -s -C "$top" extension
 PYTHONPATH="$top/python" python3 -W error "$here/calls.py"
 
-python="$("$builder" -c 'import sys; print(sys.executable)')"
-include="$("$python" -c 'import sysconfig; print(sysconfig.get_path("include"))')"
 for compiler in gcc clang; do
     if [ -n "$(command -v "$compiler")" ]; then
         "$compiler" -std=c11 -Wall -Wextra -Werror -fsyntax-only -DPy_LIMITED_API=0x030B0000 "-I$top/include" \
             "-I$include" "$top/python/gix_mailmap/_native.c"
+    else
+        echo "skipped: the extension module by $compiler, since it is not here"
     fi
 done
 shown="$(nm -D --defined-only "$top/python/gix_mailmap/_native.abi3.so" | awk '{ print $NF }')"
@@ -85,38 +73,19 @@ if [ "$shown" != PyInit__native ]; then
     exit 1
 fi
 
-# Refuses each request for memory. Only Python itself can be started with the refusing library preloaded.
-"${CC:-cc}" -std=c11 -g -fPIC -shared -Wall -Wextra -Werror "-I$include" "$here/refusing.c" -o refusing.so
-env PYTHONMALLOC=malloc LD_PRELOAD="$work/refusing.so" PYTHONPATH="$top/python:$work" \
-    "$python" -W error "$here/refused.py"
-
-PYTHONPATH="$top/python" "$python" "$here/leaks.py"
-
-sanitizers="$("${CC:-cc}" -print-file-name=libasan.so):$("${CC:-cc}" -print-file-name=libubsan.so)"
-if [[ "$sanitizers" == /*:/* ]]; then
-    echo 'Python: under the address sanitizer'
-    flags='-fsanitize=address,undefined -fno-sanitize-recover=all -g'
-    (cd "$top" && CFLAGS="$flags" LDFLAGS="$flags" PYTHONDONTWRITEBYTECODE='' \
-        "$python" setup.py --quiet build --build-lib "$work/sanitized")
-    for name in calls kinds sequence stream threads interpreters; do
-        env PYTHONMALLOC=malloc ASAN_OPTIONS=detect_leaks=0 LD_PRELOAD="$sanitizers" PYTHONPATH="$work/sanitized" \
-            "$python" -W error "$here/$name.py"
-    done
-else
-    echo 'Python: no address sanitizer here'
-fi
-
-for python in /usr/bin/python3 python3; do
-    if "$python" -c 'import pygit2' 2> "$work/said"; then
-        PYTHONPATH="$top/python" "$python" -W error "$here/beside_pygit2.py" "$top/docs/C.md"
-        break
-    fi
+with_pygit2=''
+for each in python3 /usr/bin/python3; do
+    ! "$each" -c 'import pygit2' 2> "$work/said" || with_pygit2="$each"
 done
-[ ! -s "$work/said" ] || echo 'Python: no pygit2 here'
+if [ -n "$with_pygit2" ]; then
+    PYTHONPATH="$top/python" "$with_pygit2" -W error "$here/beside_pygit2.py" "$top/docs/C.md"
+else
+    echo 'skipped: the answers of libgit2 from Python, since pygit2 is not here'
+fi
 
 if [ -n "$(command -v mypy)" ]; then
     MYPYPATH="$top/python" mypy --strict --cache-dir "$work/mypy" -p gix_mailmap
     mypy --strict --cache-dir "$work/mypy" --python-executable "$first/bin/python" "$here/typed.py"
 else
-    echo 'Python: no mypy here'
+    echo 'skipped: the types of the package for Python, since mypy is not here'
 fi

@@ -116,7 +116,7 @@ def main():
         os.chdir(folder)
         count = stored(program)
         made(program)
-        if has_git():
+        if has_git("suggested lines in a history"):
             in_history(program, counter)
         os.chdir("/")
     print(f"suggest: {runs.passed} passed, {runs.failed} failed")

@@ -70,7 +70,7 @@ impl LineAnswers for ContactLines {
     ghost partial = { λ s. s.stream.partial };
 
     fn push(&mut self, part: &[u8], text: &mut Vec<u8>) -> Result<usize, AllocError> {
-        self.stream.push(part, text)
+        Ok(self.stream.push(part, text)?.count)
     }
 
     fn finish(&mut self, text: &mut Vec<u8>) -> Result<(), AllocError> {

@@ -1,9 +1,8 @@
-//! What the programs share: reading files and streams, counting contacts, writing text, messages and exit statuses.
+//! What the programs share: reading files and streams, writing text, messages and exit statuses.
 #![tactic(auto)]
 
 pub mod answering;
 pub mod arguments;
-pub mod counting;
 pub mod failure;
 pub mod files;
 pub mod messages;

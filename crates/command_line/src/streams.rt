@@ -10,7 +10,7 @@ use std::alloc::Global;
 use std::io::{ErrorKind, Read, Write};
 
 // The bytes per read, at most.
-pub(crate) const PART: usize = 16384;
+pub const PART: usize = 16384;
 
 /// Reads the rest of standard input. `Failure::Memory` means that there is no memory for its bytes.
 pub fn read_input<R: Read>(alloc: Global, input: &mut R) -> Result<Vec<u8>, Failure>

@@ -1,13 +1,15 @@
 //! Counts the contacts of a history, of which a few may come very often.
 ghost use Rattle.std.specs.Prelude.{◌≡◌, ◌++◌, ◌∷◌, [], IfOk, IsFalse, IsTrue, List, OnOk, ℕ, length, map};
 ghost use Rattle.std.specs.List.{AllByRecursion, flat_map};
+ghost use Rattle.bstr.specs.Text.{lines_of};
 ghost use Rattle.mailmap_entries.specs.Folding.{Text};
 ghost use Rattle.contact_counter.specs.Contacts.{line_tally, once, unless_contact};
 ghost use Rattle.contact_counter.specs.Counts.{AreContactsOf, HasCounted, SameTallies, key_tally, slot_tally};
 
 use crate::occurrences::{Occurrences, add_to, sum_of};
-use answer_cache::hash_of;
+use bstr::ByteSlice;
 use mailmap_grammar::contacts::{ParsedContact, contact_of, trim};
+use mailmap_grammar::hashing::hash_of;
 use std::alloc::{AllocError, Global};
 use std::collections::BTreeMap;
 use std::marker::Model;
@@ -104,6 +106,17 @@ impl ContactCounter {
         let slot = &mut self.slots[hash_of(line) as usize & (SLOTS - 1)];
         self.contacts.add_line(slot, line, number)?;
         self.lines = number;
+        Ok(())
+    }
+
+    /// Adds the lines of a text.
+    pub fn add_lines(&mut self, text: &[u8]) -> Result<(), AllocError>
+        ensures { OnOk result ((lines : List Text) → HasCounted lines self.old
+            → HasCounted (lines ++ lines_of text.now) self.new) }
+    {
+        for line in text.lines_with_terminator() {
+            self.add_line(line)?;
+        }
         Ok(())
     }
 

@@ -7,8 +7,8 @@ ghost use Rattle.gix_mailmap.specs.IgnoredText.{ReadsWithoutIgnored};
 
 pub use mailmap_entries::laws::{law_entries, law_order, law_order_without_case};
 pub use mailmap_entries::semantics::{
-    law_answers, law_condense, law_equal, law_exists, law_headline, law_neighbours, law_of_email,
-    law_one_email, law_own_entries, law_reorder, law_repeated, law_self, law_shortest, law_unique,
+    law_condense, law_equal, law_exists, law_headline, law_neighbours, law_of_email, law_one_email,
+    law_own_entries, law_reorder, law_repeated, law_scan, law_self, law_shortest, law_unique,
 };
 pub use mailmap_findings::laws::{
     law_contacts_stay, law_deleted, law_deleted_texts, law_equal_contacts, law_equal_explanations,

@@ -69,7 +69,7 @@ AddsGiven None n new status = LeavesHandle 4 (Some (Mailmap n)) new status
 AddsGiven (Some e) n new status =
     ((status ≡ 0) × Holds Mailmap (IsMerged n (e ∷ [])) new) ⊎ LeavesHandle 2 (Some (Mailmap n)) new status
 
--- each entry fits on a line, and the text is written if it fits into the buffer; status 5: the entry at this index is
+-- each entry fits on a line, and the text is written if it fits into the buffer; status 5: the entry at this place is
 -- the first that no line can hold, and the buffer is unchanged
 abbrev pub Writes : List Mapping → Text → Text → ℕ → ℕ → Type 0
 Writes n before after needed status =

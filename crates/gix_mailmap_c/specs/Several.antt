@@ -8,8 +8,8 @@ use Rattle.mailmap_findings.specs.Positions.{whole_lines}
 use Rattle.mailmap_redundancy.specs.declared.located.Position as library
 use Rattle.mailmap_suggestions.specs.Histories.{histories_of}
 use Rattle.mailmap_suggestions.specs.SuggestedText.{suggested_text}
-use Rattle.verify_command.specs.Report.{report}
-use Rattle.verify_command.specs.Settings.{no_choices}
+use Rattle.mailmap_report.specs.Report.{report}
+use Rattle.mailmap_report.specs.Settings.{no_choices}
 use Rattle.gix_mailmap_c.specs.declared.several.Lengths.{Lengths}
 use Rattle.gix_mailmap_c.specs.declared.several.Position.{Position}
 

@@ -78,8 +78,8 @@ pub extern "C" fn gix_mailmap_handle_add_entry(
 /// Writes the mailmap as text, as [`Snapshot::write`](mailmap_snapshot::Snapshot::write()) does.
 ///
 /// Returns `OK`: the text is at the front of `out`, and `needed` is its length. `TOO_SHORT`: `out` is too short, and
-/// `needed` is the length. `OUT_OF_MEMORY`: `needed` is 0. `UNWRITABLE`: no line can hold the entry at the index
-/// `needed` of the listing. `CLOSED`: nothing is written. The rest of `out` is unchanged.
+/// `needed` is the length. `OUT_OF_MEMORY`: `needed` is 0. `UNWRITABLE`: no line can hold the entry at the place
+/// `needed` of the listing, counted from 0. `CLOSED`: nothing is written. The rest of `out` is unchanged.
 #[unsafe(no_mangle)]
 pub extern "C" fn gix_mailmap_handle_write(
     alloc: Global,
@@ -94,8 +94,8 @@ pub extern "C" fn gix_mailmap_handle_write(
     held_in!(m, Mailmap(snapshot));
     match snapshot.write(alloc) {
         Ok(text) => put(text.as_slice(), out, needed),
-        Err(WriteError::Unwritable { index }) => {
-            *needed = index;
+        Err(WriteError::Unwritable { place }) => {
+            *needed = place;
             UNWRITABLE
         }
         Err(WriteError::Memory(_)) => out_of_memory(needed),

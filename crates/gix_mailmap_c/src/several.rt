@@ -4,23 +4,22 @@ ghost use Rattle.mailmap_contacts.specs.Counts.{AreContactsOf};
 ghost use Rattle.mailmap_findings.specs.Positions.{whole_lines};
 ghost use Rattle.mailmap_suggestions.specs.SuggestedText.{suggestions_text};
 ghost use Rattle.mailmap_suggestions.specs.Views.{suggestion_of};
-ghost use Rattle.verify_command.specs.Explained.{ExplainsAll, each_line, explained_line};
+ghost use Rattle.mailmap_report.specs.Explained.{ExplainsAll, each_line, explained_line};
 ghost use Rattle.gix_mailmap_c.specs.Buffers.{IsOutput};
 ghost use Rattle.gix_mailmap_c.specs.Several.{c_position, names_in, suggested_for, texts_in};
 ghost use Rattle.gix_mailmap_c.specs.Several.{AreUnneededOf, IsReportOf};
 
 use crate::buffers::hand;
 use bstr::ByteSlice;
-use command_line::counting::add_lines;
 use mailmap_contacts::counter::{ContactCounter, Contacts};
 use mailmap_findings::verify::{Mailmaps, Verification};
 use mailmap_findings::{needs, verify};
+use mailmap_report::explanation::Explainer;
+use mailmap_report::pieces::{self, FindingPieces};
+use mailmap_report::settings::Settings;
 use mailmap_suggestions::suggestions::{Suggestion, suggest};
 use mailmap_suggestions::text::push_suggestion;
 use std::alloc::{AllocError, Global};
-use verify_command::explanation::Explainer;
-use verify_command::report::print_findings;
-use verify_command::task::Settings;
 
 type Made<T> = Result<Vec<T>, AllocError>;
 
@@ -40,7 +39,7 @@ pub struct Position {
     pub line: usize,
 }
 
-/// Writes a line for each finding in several mailmaps, as [`print_findings`] does.
+/// Writes a line for each finding in several mailmaps, as [`FindingPieces`] has them.
 ///
 /// `names` has the mailmaps' names, one after another, and `texts` their texts. If either has fewer bytes than
 /// `lengths` adds up to, the last ones are short or empty.
@@ -69,18 +68,13 @@ fn report(alloc: Global, lengths: &[Lengths], names: &[u8], texts: &[u8]) -> Mad
     let buffers = texts_of(alloc, lengths, texts)?;
     let mailmaps = Mailmaps::read(alloc, buffers.as_slice())?;
     let verification = Verification::new(alloc, &mailmaps)?;
-    let found = verification.findings();
-    let mut text = Vec::new(alloc);
-    match print_findings(
-        alloc,
-        &Settings::new(alloc),
-        names.as_slice(),
-        found,
-        &mut text,
-    ) {
-        Ok(_) => Ok(text),
-        Err(_) => Err(AllocError),
-    }
+    let settings = Settings::new(alloc);
+    let pieces = FindingPieces {
+        settings: &settings,
+        names: names.as_slice(),
+        findings: verification.findings(),
+    };
+    pieces::text_of(alloc, pieces)
 }
 
 /// Explains each line of `contacts` using several mailmaps, as [`Explainer::explained_line`] does.
@@ -201,7 +195,7 @@ fn counted_in(alloc: Global, contacts: &[u8]) -> Result<Contacts, AllocError>
     ensures { IfOk result (AreContactsOf (whole_lines contacts.now)) }
 {
     let mut counter = ContactCounter::new(alloc)?;
-    add_lines(&mut counter, contacts)?;
+    counter.add_lines(contacts)?;
     counter.into_contacts()
 }
 

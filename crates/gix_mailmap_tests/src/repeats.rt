@@ -1,4 +1,5 @@
-use answer_cache::{AnswerCache, ROWS, hash_of};
+use mailmap_grammar::hashing::hash_of;
+use mailmap_snapshot::cache::{AnswerCache, ROWS};
 use std::alloc::AllocError;
 
 /// A line is cached when it is missed for the second time, and found from then on. A line that occurs once is only

@@ -5,6 +5,7 @@
 ghost use Rattle.std.specs.Prelude.{◌≤◌, IfOk};
 
 use crate::shelf::Shelf;
+use check_command::run::{run, run_compact};
 use command_line::failure::Failure;
 use std::alloc::Global;
 use std::io::{Error, ErrorKind, Read, Write};
@@ -223,5 +224,76 @@ fn writes_can_be_short_interrupted_or_fail(rt: HostRuntime) {
     ];
     for (words, writes, flushes, ended, want) in &ROWS {
         assert_run(&rt, words, [b"", *writes, *flushes], *ended, want);
+    }
+}
+
+/// Whether mailmaps are compacted, their bytes if they are files, the turns and the bytes of the input, and the output.
+type Row = (
+    bool,
+    Option<&'static [&'static [u8]]>,
+    &'static [u8],
+    &'static str,
+    &'static str,
+);
+
+/// Whether a run ends without a failure and leaves this output.
+fn is_left(alloc: Global, (compact, files, turns, input, want): &Row) -> bool {
+    let mut output = Vec::new(alloc);
+    let mut input = Source {
+        bytes: input.as_bytes(),
+        turns: *turns,
+    };
+    let end = if *compact {
+        run_compact(alloc, *files, &mut input, &mut output)
+    } else {
+        run(alloc, *files, &mut input, &mut output)
+    };
+    end == DONE && output.as_slice() == want.as_bytes()
+}
+
+/// Mailmaps as files, or in front of a line `--`, and what is written without a failure. What isn't needed isn't read.
+#[test]
+fn contacts_are_answered_and_mailmaps_written_as_one(rt: HostRuntime) {
+    static ROWS: [Row; 5] = [
+        (
+            false,
+            None,
+            b"",
+            "Joe R. Developer <joe@example.com> <bugs@example.com>\n--\nbob <BUGS@example.com>\n",
+            "Joe R. Developer <joe@example.com>\n",
+        ),
+        (
+            false,
+            None,
+            b"",
+            "Joe R. Developer <joe@example.com> <bugs@example.com>\n\
+            Jane Doe <jane@example.com> Jane <bugs@example.com>\n\
+            --\nbob <BUGS@example.com>\nnot a contact\n",
+            "Joe R. Developer <joe@example.com>\nnot a contact\n",
+        ),
+        (
+            false,
+            Some(&[b"N <n@x> <a@x>"]),
+            b"",
+            "b <A@x>",
+            "N <n@x>\n",
+        ),
+        (
+            true,
+            None,
+            b"",
+            " # c <a@x>\nJane <j@x> <>\n<n@y> Bob <A@X>",
+            " Jane <j@x> <>\n # c <a@x>\n <n@y> Bob <a@x>\n",
+        ),
+        (
+            true,
+            Some(&[b"N <a@x>", b"M <A@x>"]),
+            b"x",
+            "",
+            " M <a@x>\n",
+        ),
+    ];
+    for (i, row) in ROWS.iter().enumerate() {
+        assert!(rt; is_left(rt.alloc(), row), "row {i}");
     }
 }

@@ -22,7 +22,6 @@ use Rattle.std.proofs.lemmas.List.Sorted.{All-permutation, IsPermutation-append,
 use Rattle.std.proofs.lemmas.List.Sorted.{answers_always, ranks_by, sorted_far}
 use Rattle.mailmap_entries.specs.Entries.{Mapping}
 use Rattle.mailmap_entries.specs.Folding.{Text, text_cmp}
-use Rattle.mailmap_entries.specs.Prefixes.{AreBytes}
 use Rattle.mailmap_entries.specs.Semantics.{Key, key, key_cmp, of_key}
 use Rattle.mailmap_entries.proofs.Alike.{picked-append}
 use Rattle.mailmap_entries.proofs.Keys.{keys_total}
@@ -106,31 +105,27 @@ sorted_joined xs ys xs' ys' s t a = record {
       (All-weaker (IsAtMost ys) (IsAtMost ys') (λ p. All-permutation (λ q. IsNotBelow q p) ys ys' t.kept.moved) xs a));
 }
 
-abbrev pub HasBytes : IndexedEntry → Type 0
-HasBytes p = AreBytes (folded_email_at p)
-
 -- an entry with a greater prefix is not below one with a smaller
-greater_key : (p q : IndexedEntry) → HasBytes p → HasBytes q → email_prefix p < email_prefix q → IsNotBelow q p
-greater_key p q a b lt =
+greater_key : (p q : IndexedEntry) → email_prefix p < email_prefix q → IsNotBelow q p
+greater_key p q lt =
     let x = folded_email_at p in
     let y = folded_email_at q in
     let above : text_cmp y x ≡ Greater =
-    nat_list_cmp_total.antisymm y x ∙ ap ordering_reverse (prefix_less 16 x y a b lt) in
+    nat_list_cmp_total.antisymm y x ∙ ap ordering_reverse (prefix_less 16 x y p.is_prefix.bytes q.is_prefix.bytes lt) in
     ap (λ o. is_lt (ordering_then o (option_cmp text_cmp (key_at q).1 (key_at p).1))) above
 
 -- if the prefix rises at an index, no entry from there on is below one before it
-rises_at : (xs : List IndexedEntry) (e : ℕ) → 0 < e → e ≤ length xs → All HasBytes xs → IsNonDecreasingBy email_prefix xs
+rises_at : (xs : List IndexedEntry) (e : ℕ) → 0 < e → e ≤ length xs → IsNonDecreasingBy email_prefix xs
     → ((d : IndexedEntry) → e < length xs → email_prefix (get_or xs (e - 1) d) < email_prefix (get_or xs e d))
     → All (IsAtMost (drop e xs)) (take e xs)
-rises_at xs e some le bytes ascending rises i d i_lt =
+rises_at xs e some le ascending rises i d i_lt =
     let i_in : i < e = omega (arith, i_lt, length-take e xs) in
     All-from_get_or (λ q. IsNotBelow q (get_or (take e xs) i d)) (drop e xs) d (λ j j_lt.
     let j_in : e + j < length xs = omega (arith, j_lt, length-drop e xs) in
     let lower = ascending i (e - 1) d (omega arith) (omega arith) in
     let upper = ascending e (e + j) d (omega arith) j_in in
     subst₂ IsNotBelow (sym (get_or-drop e xs j d)) (sym (get_or-take e xs i d i_in))
-    (greater_key (get_or xs i d) (get_or xs (e + j) d) (bytes i d (omega arith)) (bytes (e + j) d j_in)
-    (omega (arith, lower, upper, rises d (omega arith)))))
+    (greater_key (get_or xs i d) (get_or xs (e + j) d) (omega (arith, lower, upper, rises d (omega arith)))))
 
 -- the entries before an index are sorted, and none of the others is below one of them
 pub record IsSortedTo (e : ℕ) (xs ys : List IndexedEntry) : Type 0 where
@@ -138,18 +133,18 @@ pub record IsSortedTo (e : ℕ) (xs ys : List IndexedEntry) : Type 0 where
   pub apart : All (IsAtMost (drop e xs)) (take e xs)
 
 -- one more run is sorted, from the index a to e
-pub run_sorted : (xs ys run : List IndexedEntry) (a e : ℕ) → a < e → e ≤ length xs → All HasBytes xs
+pub run_sorted : (xs ys run : List IndexedEntry) (a e : ℕ) → a < e → e ≤ length xs
     → IsNonDecreasingBy email_prefix xs
     → ((d : IndexedEntry) → e < length xs → email_prefix (get_or xs (e - 1) d) < email_prefix (get_or xs e d))
     → IsSortedTo a xs ys → IsSortedFrom (mid_of a (e - a) xs) run → IsSortedTo e xs (ys ++ run)
-run_sorted xs ys run a e lt le bytes ascending greater before sorted =
+run_sorted xs ys run a e lt le ascending greater before sorted =
     let mid = mid_of a (e - a) xs in
     let parts : take a xs ++ mid ≡ take e xs = grind (arith, take-add a (e - a) xs) in
     record {
       sorted = subst (λ l. IsSortedFrom l (ys ++ run)) parts (sorted_joined (take a xs) mid ys run before.sorted sorted
           (All-weaker (IsAtMost (drop a xs)) (IsAtMost mid)
           (λ p. All-take (λ q. IsNotBelow q p) (e - a) (drop a xs)) (take a xs) before.apart));
-      apart = rises_at xs e (omega (arith, lt)) le bytes ascending greater;
+      apart = rises_at xs e (omega (arith, lt)) le ascending greater;
     }
 
 pub one_sorted : (xs : List IndexedEntry) → length xs ≡ 1 → IsSortedFrom xs xs

@@ -3,4 +3,3 @@ pub use Rattle.mailmap_entries.specs.Entries
 pub use Rattle.mailmap_entries.specs.Prefixes
 pub use Rattle.mailmap_entries.specs.Semantics
 pub mod Batches
-pub mod InOrder

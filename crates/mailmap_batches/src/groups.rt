@@ -6,11 +6,18 @@ ghost use Rattle.mailmap_batches.specs.declared.indexed.IndexedEntry.{IndexedEnt
 
 use crate::indexed::IndexedEntry;
 
-/// Whether two texts differ at most in the case of ASCII letters. Most are spelled the same, so that is tried first.
-pub(crate) fn differ_only_in_case(a: &[u8], b: &[u8]) -> bool
+// Whether two texts differ at most in the case of ASCII letters. Most are spelled the same, so that is tried first.
+fn differ_only_in_case(a: &[u8], b: &[u8]) -> bool
     ensures { IsTrue result ↔ (folded a.now ≡ folded b.now) }
 {
     a == b || a.eq_ignore_ascii_case(b)
+}
+
+// Whether the old emails of two entries are equal. Those of most neighbours differ in their prefixes.
+fn have_same_email(a: IndexedEntry<'_, '_>, b: IndexedEntry<'_, '_>) -> bool
+    ensures { IsTrue result ↔ (folded_email_at a.entry ≡ folded_email_at b.entry) }
+{
+    a.prefix == b.prefix && differ_only_in_case(a.entry.old_email(), b.entry.old_email())
 }
 
 /// The number of entries at the start with the old email of the first entry.
@@ -23,9 +30,9 @@ pub fn email_group_len(batch: &[IndexedEntry<'_, '_>]) -> usize
     ensures other { (d : SpecEntry) → result < length batch.now
         → folded_email_at (slice_index_or batch.now result d) ≢ folded_email_at (slice_index_or batch.now 0 d) }
 {
-    let email = batch[0].entry.old_email();
+    let first = batch[0];
     for i in 1..batch.len() {
-        if !differ_only_in_case(batch[i].entry.old_email(), email) {
+        if !have_same_email(batch[i], first) {
             return i;
         }
     }

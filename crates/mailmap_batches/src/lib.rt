@@ -4,4 +4,3 @@
 pub mod batch;
 pub mod groups;
 pub mod indexed;
-mod prefixed;

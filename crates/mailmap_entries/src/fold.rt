@@ -35,20 +35,20 @@ pub fn cmp_ignore_ascii_case(a: &[u8], b: &[u8]) -> Ordering
     a.len().cmp(&b.len())
 }
 
-/// A sorted list and the key to find in it. [`search`] asks it about one index at a time, and each question is counted.
+/// A sorted list and the key to find in it. [`search`] asks it about one place at a time, and each question is counted.
 ///
-/// `Less` means that the element at the index comes before the key, `Equal` that it matches, `Greater` that it comes
+/// `Less` means that the element at the place comes before the key, `Equal` that it matches, `Greater` that it comes
 /// after.
 pub trait Probe {
     ghost answers: { Self → List Answer };
 
     ghost asked: { Self → ℕ };
 
-    /// Compares the element at the index to the key.
-    fn ask(&mut self, index: usize) -> Ordering
-        requires within { index < length (answers self.old) }
+    /// Compares the element at this place, counted from 0, to the key.
+    fn ask(&mut self, place: usize) -> Ordering
+        requires within { place < length (answers self.old) }
         requires countable { asked self.old < usize.MAX }
-        ensures answer { slice_get (answers self.old) index ≡ Some result }
+        ensures answer { slice_get (answers self.old) place ≡ Some result }
         ensures same { answers self.new ≡ answers self.old }
         ensures counted { asked self.new ≡ asked self.old + 1 };
 }

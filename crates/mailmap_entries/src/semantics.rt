@@ -22,9 +22,9 @@ pub fn law_condense()
     ensures { (a b c m n : List Mapping) → IsNormal b m → IsNormal (a ++ b ++ c) n ↔ IsNormal (a ++ m ++ c) n }
 {}
 
-/// A normal list gives the same answers as the mappings that it was made from.
+/// A scan of a normal list gives the same answers as one of the mappings that the list was made from.
 #[tactic(auto, using(crate::proofs::Alike::alike_answer, crate::proofs::Normal::alike_normal))]
-pub fn law_answers()
+pub fn law_scan()
     ensures { (h n : List Mapping) (name email : Text) → IsNormal h n → answer_of h name email ≡ answer_of n name email }
 {}
 

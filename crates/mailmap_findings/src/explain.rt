@@ -55,7 +55,7 @@ pub struct Explanation<'a> {
 }
 
 /// The lines that an answer needs, in their order. There are at most two: one sets the name, the other sets the email
-/// or its spelling.
+/// or its spelling. [`Explanations::needs`] says what can be deleted beside them.
 #[derive(Clone, Copy, Debug, PartialEq, Eq)]
 pub struct Needed {
     pub first: Option<Position>,
@@ -97,7 +97,11 @@ impl<'m, 'a> Explanations<'m, 'a> {
         kept.iter().map(|entry| entry.position).collect(alloc)
     }
 
-    /// The lines that the answer to a name and an email needs: deleting any other line leaves it as it is.
+    /// The lines that the answer to a name and an email needs. With these and any others of
+    /// [`lines`](Explanations::lines()), the answer is the same.
+    ///
+    /// So the lines without an effect have to be deleted, too. In `P <A@x>`, `Q <a@x>`, `P <a@x>` line 1 is needed, and
+    /// line 3 has no effect beside it; but without line 3 alone the answer is `Q`.
     pub fn needs(&self, name: &[u8], email: &[u8]) -> Needed
         ensures positions { positions_of result ≡ needed_positions (origins self.now.kept name.now email.now) }
         ensures second { result.first ≡ None → result.second ≡ None }

@@ -3,6 +3,7 @@
 #![tactic(auto)]
 
 pub mod contacts;
+pub mod hashing;
 pub mod laws;
 pub mod lines;
 mod skip;

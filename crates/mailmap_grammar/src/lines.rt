@@ -55,7 +55,7 @@ pub fn parse(buf: &[u8]) -> Lines<'_>
 ///
 /// So `Jane <a@x> <b` yields a fault, where [`parse`] yields the entry that maps `a@x` to `Jane`. Text after a closed
 /// email, as in `Jane <a@x> tail`, is no fault here, either. If the first contact has a fault, that one is reported.
-pub fn parse_strict(buf: &[u8]) -> Lines<'_>
+pub fn parse_strict(buf: &[u8]) -> StrictLines<'_>
     ensures value { result ≡ strict_readings buf.now }
 
     // there are at most as many items as lines, and the lines of the faults ascend
@@ -65,7 +65,9 @@ pub fn parse_strict(buf: &[u8]) -> Lines<'_>
     // callers can count the items without overflow
     ensures countable { length result ≤ length buf.now }
 {
-    Lines::new(buf, Strictness::Strict)
+    StrictLines {
+        lines: Lines::new(buf, Strictness::Strict),
+    }
 }
 
 /// Parses `buf` as [`parse`] does, and skips lines with a fault. Git skips most such lines silently, too, but it
@@ -82,7 +84,7 @@ pub fn parse_ignore_errors(buf: &[u8]) -> GoodLines<'_>
     GoodLines { lines: parse(buf) }
 }
 
-/// An iterator over the lines of a mailmap, made by [`parse`] and [`parse_strict`]. It parses on demand.
+/// An iterator over the lines of a mailmap, made by [`parse`]. It parses on demand.
 ///
 /// Contracts see it as the list of the items that are left.
 #[derive(Drop)]
@@ -148,6 +150,35 @@ impl<'a> Iterator for Lines<'a> {
                 return Some(item);
             }
         }
+    }
+}
+
+/// An iterator over the lines of a mailmap that parses them strictly, made by [`parse_strict`].
+///
+/// Contracts see it as the list of the items that are left.
+#[derive(Drop)]
+pub struct StrictLines<'a> {
+    lines: Lines<'a>,
+}
+
+impl<'a> Model for StrictLines<'a> {
+    ghost use Rattle.std.specs.Prelude.{List};
+    ghost use Rattle.mailmap_grammar.specs.Lines.{Reading};
+
+    ghost Value = { List Reading };
+
+    ghost view = { λ s. s.lines };
+}
+
+impl<'a> Iterator for StrictLines<'a> {
+    type Item = Result<Entry<'a>, Error<'a>>;
+
+    ghost next_gives = { YieldsFirstBy reading_of (λ s. s) };
+
+    ghost remaining = { item_count (λ s. s) };
+
+    fn next(&mut self) -> Option<Result<Entry<'a>, Error<'a>>> {
+        self.lines.next()
     }
 }
 

@@ -5,7 +5,7 @@ use Rattle.mailmap_entries.specs.Entries.{Mapping}
 use Rattle.mailmap_snapshot.specs.SignatureFields.{SignatureFields}
 use Rattle.mailmap_snapshot.specs.Times.{IsTimeOf}
 use Rattle.mailmap_snapshot.specs.declared.actor.SignatureRef.{SignatureRef}
-use Rattle.mailmap_snapshot.specs.declared.cow.Signature.{Signature}
+use Rattle.mailmap_snapshot.specs.declared.snapshot.cow.Signature.{Signature}
 use Rattle.mailmap_entries.specs.Semantics.{Fields, fields_for, answer_of}
 
 -- the fields that replace a signature's name and email, if there are any

@@ -10,7 +10,7 @@ use Rattle.mailmap_entries.specs.Folding.{Text, text_cmp}
 use Rattle.mailmap_snapshot.specs.Times.{IsTimeOf, epoch, time_cmp}
 use Rattle.mailmap_snapshot.specs.declared.actor.Signature as owned
 use Rattle.mailmap_snapshot.specs.declared.actor.SignatureRef.{SignatureRef}
-use Rattle.mailmap_snapshot.specs.declared.cow.Signature.{Signature}
+use Rattle.mailmap_snapshot.specs.declared.snapshot.cow.Signature.{Signature}
 use Rattle.mailmap_snapshot.specs.declared.date.Time.{Time}
 
 -- the name, the email and the time of a signature

@@ -9,15 +9,15 @@ use Rattle.mailmap_entries.specs.Folding.{Text}
 use Rattle.mailmap_entries.specs.Semantics.{IsNormal}
 use Rattle.mailmap_grammar.specs.Lines.{mappings_of}
 
--- lines can hold all entries before this index, but not the one at it
-pub record IsFirstUnwritable (es : List Mapping) (index : ℕ) : Type 0 where
-  pub before : AllWithin IsWritable es 0 index
-  pub within : index < length es
-  pub unwritable : HoldsAt (λ e. ¬ IsWritable e) es index
+-- lines can hold all entries before this place, counted from 0, but not the one at it
+pub record IsFirstUnwritable (es : List Mapping) (place : ℕ) : Type 0 where
+  pub before : AllWithin IsWritable es 0 place
+  pub within : place < length es
+  pub unwritable : HoldsAt (λ e. ¬ IsWritable e) es place
 
 -- why entries weren't written: the first that no line can hold, or out of memory if lines can hold all
 abbrev pub IsUnwrittenBy : List Mapping → WriteError → Type 0
-IsUnwrittenBy es (Unwritable index) = IsFirstUnwritable es index
+IsUnwrittenBy es (Unwritable place) = IsFirstUnwritable es place
 IsUnwrittenBy es (Memory error) = All IsWritable es
 
 -- the bytes are the text of the normal list of the buffers' mappings, one buffer after another

@@ -15,7 +15,7 @@ use bstr::ByteSlice;
 use mailmap_grammar::contacts::{ParsedContact, contact_of};
 use mailmap_grammar::parse_ignore_errors;
 use std::alloc::{AllocError, Global};
-pub use stream::ContactStream;
+pub use stream::{ContactStream, Taken};
 
 /// Answers each line of `contacts`, using the mappings of the buffers, later ones after earlier ones.
 ///

@@ -21,15 +21,14 @@ ghost use Rattle.mailmap_snapshot.specs.declared.snapshot.text.WriteError as the
 ghost use Rattle.std.specs.Hash as fed;
 ghost use Rattle.mailmap_snapshot.specs.declared.actor.Signature as the_owned;
 ghost use Rattle.mailmap_snapshot.specs.declared.actor.SignatureRef as the_ref;
-ghost use Rattle.mailmap_snapshot.specs.declared.cow.Signature as the_signature;
+ghost use Rattle.mailmap_snapshot.specs.declared.snapshot.cow.Signature as the_signature;
 
 use crate::actor::SignatureRef;
-use crate::cow::Signature;
-use crate::snapshot::WriteError;
+use crate::snapshot::{Signature, WriteError};
 use crate::{actor, date};
 use std::hash::Hash;
 
-/// Errors of a write are equal exactly if both are out of memory, or both are about an entry with the same index.
+/// Errors of a write are equal exactly if both are out of memory, or both are about an entry at the same place.
 pub fn law_equal_write_errors()
     ensures { (a b : the_error.WriteError) → (⟦<WriteError as PartialEq>⟧.eq a b ≡ true) ↔ (a ≡ b) }
 {}

@@ -2,8 +2,8 @@
 #![tactic(auto)]
 
 pub mod actor;
+pub mod cache;
 pub mod check;
-pub mod cow;
 pub mod date;
 pub mod laws;
 pub mod snapshot;

@@ -2,13 +2,14 @@
 ghost use Rattle.std.specs.Prelude.{◌≡◌, []};
 
 mod build;
+mod cow;
 mod listing;
 mod lookup;
 mod resolve;
 mod sources;
 mod text;
 
-pub use crate::cow::Signature;
+pub use cow::Signature;
 pub use listing::Iter;
 pub use lookup::ResolvedSignature;
 use mailmap_tables::tables::Tables;

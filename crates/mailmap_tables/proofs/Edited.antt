@@ -1,128 +1,184 @@
 -- What tables hold at an index, and after a row was put at a place.
-use Rattle.std.proofs.Common.{◌≡◌, ◌+◌, ◌≤◌, ◌<◌, ◌^◌, get_or, ℕ, List, [], ◌∷◌, map, length, set, sym, ap, ◌∙◌, arith}
-use Rattle.std.proofs.Common.{refl, subst, Some, option_map, unwrap_or, Result, Ok, Err}
+use Rattle.std.proofs.Common.{◌≡◌, ◌+◌, ◌≤◌, ◌<◌, get_or, ℕ, List, [], ◌∷◌, map, length, set, sym, ap, ◌∙◌, arith}
+use Rattle.std.proofs.Common.{Option, Some, None, option_map, refl, subst, Result, Ok, Err}
 use Rattle.std.proofs.lemmas.Grind.{common_steps}
-use Rattle.std.specs.Option.{ForSome}
-use Rattle.std.specs.List.{slice_get, AllByRecursion}
-use Rattle.std.specs.List.Sorted.{IsSearchInRange}
-use Rattle.std.proofs.Math.Seq.{map-set_same}
-use Rattle.std.proofs.lemmas.List.{get_or-map, length-map, set-get_or}
+use Rattle.std.specs.Option.{ForSome, option_to_list}
+use Rattle.std.specs.List.{insert, slice_get}
+use Rattle.std.specs.List.Sorted.{IsSearchInRange, IsStrictlySortedBy}
+use Rattle.std.proofs.lemmas.List.{length-map, set-get_or}
 use Rattle.std.proofs.lemmas.List.Elements.{All-from_recursion}
-use Rattle.std.proofs.lemmas.List.Sums.{sum_by-insert, sum_by-set, sum_by-cons}
+use Rattle.std.proofs.lemmas.List.Sums.{sum_by-cons}
 use Rattle.std.proofs.lemmas.Option.{get_or_from_slice_get, slice_get-get_or, slice_get-map}
-use Rattle.mailmap_entries.specs.Folding.{Text, folded}
+use Rattle.mailmap_entries.specs.Folding.{Text, folded, text_cmp}
 use Rattle.mailmap_entries.specs.Prefixes.{key_prefix}
-use Rattle.mailmap_tables.specs.Groups.{Contents, EmailGroup, listing, name_total, unnamed_entries}
-use Rattle.mailmap_tables.specs.KeySearch.{found_in, placed}
-use Rattle.mailmap_tables.specs.Pool.{AreTables, RowInPool, contents, stored_name, prefix_of, row_group, row_of, rows_of, spelled}
-use Rattle.mailmap_tables.specs.Pool.{with_group_at}
+use Rattle.mailmap_tables.specs.Groups.{Contents, EmailGroup, folded_name, listing, name_total, unnamed_entries}
+use Rattle.mailmap_tables.specs.KeySearch.{placed}
+use Rattle.mailmap_tables.specs.Pool.{EmailInPool, NameInPool, Row, TextsInPool, contents, fields_of, group_of, prefix_of}
+use Rattle.mailmap_tables.specs.Pool.{row_group, spelled, stored_name, with_group_at}
 use Rattle.mailmap_tables.specs.RowTexts.{old_span}
+use Rattle.mailmap_tables.specs.Rows.{AreRows, AreTables, IsRow, emails_of, names_of, rows_of}
 use Rattle.mailmap_tables.specs.declared.rows.EmailRow.{EmailRow}
+use Rattle.mailmap_tables.specs.declared.texts.RowTexts.{RowTexts}
 use Rattle.mailmap_tables.proofs.KeySearch.{all_placed, map-placed}
+use Rattle.mailmap_tables.proofs.Ranges.{emails_inserted, emails_named, inserted_cover, inserted_follow, later, length-rows_of}
+use Rattle.mailmap_tables.proofs.Ranges.{name_follow, name_placed, names_inserted, new_row, row_at, row_from, rows_laid_out}
+use Rattle.mailmap_tables.proofs.Ranges.{tables_laid_out, texts_cover, texts_set}
 
--- ---- an email's row at a place
+-- ---- a row at a place
 
-abbrev names_in : EmailGroup → ℕ
-names_in g = length g.names
+module _ {pool : Text} (rows : List Row) {prefixes : List ℕ} (h : AreRows pool rows prefixes) {v : Contents}
+    (is : contents pool rows ≡ v) (r : Result ℕ ℕ) (f : Row) where
+  pub contents-placed : contents pool (placed rows r f) ≡ record v { groups = placed v.groups r (row_group v.pool f) }
+  contents-placed = rw (map-placed (row_group pool) rows r f, ← is) refl
 
-abbrev names_found : List EmailGroup → Result ℕ ℕ → ℕ
-names_found gs r = unwrap_or (option_map names_in (found_in gs r)) 0
-
-total-placed : (gs : List EmailGroup) (r : Result ℕ ℕ) (g : EmailGroup) → IsSearchInRange r (length gs)
-    → name_total (placed gs r g) + names_found gs r ≡ name_total gs + names_in g
-total-placed gs (Ok i) g lt = rw (slice_get-get_or gs i g lt) (sum_by-set names_in gs i g g lt)
-total-placed gs (Err i) g le = omega (arith, sum_by-insert names_in gs i g)
-
-module _ {pool : Text} (es : List EmailRow) {prefixes : List ℕ} {count : ℕ} (h : AreTables pool (rows_of es) prefixes count)
-    {v : Contents} (is : contents pool (rows_of es) ≡ v) (r : Result ℕ ℕ) (f : EmailRow) where
-  groups-placed : map (row_group pool) (rows_of (placed es r f))
-      ≡ placed (map (row_group pool) (rows_of es)) r (row_group pool (row_of f))
-  groups-placed = ap (map (row_group pool)) (map-placed row_of es r f)
-      ∙ map-placed (row_group pool) (rows_of es) r (row_of f)
-
-  pub contents-placed : contents pool (rows_of (placed es r f))
-      ≡ record v { groups = placed v.groups r (row_group v.pool (row_of f)) }
-  contents-placed = rw (groups-placed, ← is) refl
-
-  pub tables-placed : RowInPool pool (row_of f) → IsSearchInRange r (length v.groups) → (new : List ℕ)
-      → new ≡ placed prefixes r (prefix_of (row_group pool (row_of f))) → (n : ℕ)
-      → n + names_found v.groups r ≡ count + length f.names.items → n < 2 ^ 63
-      → AreTables pool (rows_of (placed es r f)) new n
-  tables-placed lies within new prefixed n names few =
-      let gs = map (row_group pool) (rows_of es) in
-      let g = row_group pool (row_of f) in
-      record {
-        lie = subst (AllByRecursion (RowInPool pool)) (sym (map-placed row_of es r f))
-            (all_placed (RowInPool pool) (rows_of es) r (row_of f) h.lie lies);
-        prefix_each = prefixed ∙ (λ j. placed (h.prefix_each j) r (prefix_of g)) ∙ sym (ap (map prefix_of) groups-placed
-            ∙ map-placed prefix_of gs r g);
-        counted = rw groups-placed (omega (
-          arith,
-          total-placed gs r g (rw (← is) at within),
-          h.counted,
-          (rw (← is) at names),
-          length-map f.names.items (stored_name pool),
-        ));
-        few = few;
-      }
+  pub rows-placed : IsRow pool f → (new : List ℕ) → new ≡ placed prefixes r (prefix_of (row_group pool f))
+      → AreRows pool (placed rows r f) new
+  rows-placed its new prefixed = record {
+    each = all_placed (IsRow pool) rows r f h.each its;
+    prefix_each = prefixed ∙ (λ j. placed (h.prefix_each j) r (prefix_of (row_group pool f)))
+        ∙ sym (ap (map prefix_of) (map-placed (row_group pool) rows r f)
+        ∙ map-placed prefix_of (map (row_group pool) rows) r (row_group pool f));
+  }
 
 -- ---- the row of an email
 
-module _ (pool : Text) (es : List EmailRow) (v : Contents) (is : contents pool (rows_of es) ≡ v) where
+module _ (pool : Text) (es : List EmailRow) (ns : List RowTexts) (v : Contents) (is : contents pool (rows_of es ns) ≡ v) where
   pub row_count_is : length v.groups ≡ length es
-  row_count_is = grind (arith, common_steps)
+  row_count_is = omega (
+    arith,
+    ap (λ (w : Contents). length w.groups) (sym is),
+    length-map (rows_of es ns) (row_group pool),
+    length-rows_of es ns,
+  )
 
-  pub group_read : (i : ℕ) (e : EmailRow) → i < length v.groups → e ≡ get_or es i e
-      → slice_get v.groups i ≡ Some (row_group pool (row_of e))
-  group_read i e lt read = grind (arith, common_steps, slice_get-map, slice_get-get_or)
+module _ {pool : Text} (es : List EmailRow) (ns : List RowTexts) {prefixes : List ℕ} (h : AreTables pool es ns prefixes)
+    {v : Contents} (is : contents pool (rows_of es ns) ≡ v) {i : ℕ} {e : EmailRow} (lt : i < length v.groups)
+    (read : e ≡ get_or es i e) where
+  abbrev row : Row
+  row = row_from es ns i e
 
-module _ {pool : Text} (es : List EmailRow) {prefixes : List ℕ} {count : ℕ}
-    (h : AreTables pool (rows_of es) prefixes count) {v : Contents} (is : contents pool (rows_of es) ≡ v) {i : ℕ}
-    {e : EmailRow} (lt : i < length v.groups) (read : e ≡ get_or es i e) where
-  within : i < length es
-  within = omega (arith, lt, row_count_is pool es v is)
+  pub within : i < length es
+  within = omega (arith, lt, row_count_is pool es ns v is)
 
-  within_rows : i < length (rows_of es)
-  within_rows = omega (arith, within, length-map es row_of)
+  pub row_read : get_or (rows_of es ns) i row ≡ row
+  row_read = row_at es ns i e row within read
 
-  row_read : get_or (rows_of es) i (row_of e) ≡ row_of e
-  row_read = get_or-map row_of es i e (row_of e) within ∙ ap row_of (sym read)
+  pub is_row : IsRow pool row
+  is_row = rw row_read at (All-from_recursion (IsRow pool) (rows_of es ns) h.rows.each i row
+      (omega (arith, within, length-rows_of es ns)))
 
-  pub lies_at : RowInPool pool (row_of e)
-  lies_at =
-      rw row_read at (All-from_recursion (RowInPool pool) (rows_of es) h.lie i (row_of e) within_rows)
+  pub is_row_seen : IsRow v.pool row
+  is_row_seen = rw (← is) is_row
 
-  pub lies_seen : RowInPool v.pool (row_of e)
-  lies_seen = rw (← is) lies_at
+  pub group_seen : slice_get v.groups i ≡ Some (row_group v.pool row)
+  group_seen =
+      let lt_rows : i < length (rows_of es ns) = omega (arith, within, length-rows_of es ns) in
+      ap (λ (w : Contents). slice_get w.groups i) (sym is) ∙ slice_get-map (row_group pool) (rows_of es ns) i
+      ∙ ap (option_map (row_group pool)) (slice_get-get_or (rows_of es ns) i row lt_rows)
+      ∙ ap (λ x. Some (row_group pool x)) row_read ∙ ap (λ (w : Contents). Some (row_group w.pool row)) is
 
-  pub group_seen : slice_get v.groups i ≡ Some (row_group v.pool (row_of e))
-  group_seen = group_read pool es v is i e lt read ∙ ap (λ (w : Contents). Some (row_group w.pool (row_of e))) is
-
-  pub prefix_seen : (d : ℕ) → get_or prefixes i d ≡ prefix_of (row_group v.pool (row_of e))
-  prefix_seen d = ap (λ l. get_or l i d) (h.prefix_each ∙ ap (λ (w : Contents). map prefix_of w.groups) is)
+  pub prefix_seen : (d : ℕ) → get_or prefixes i d ≡ prefix_of (row_group v.pool row)
+  prefix_seen d = ap (λ l. get_or l i d) (h.rows.prefix_each ∙ ap (λ (w : Contents). map prefix_of w.groups) is)
       ∙ get_or_from_slice_get (map prefix_of v.groups) i _ d (slice_get-map prefix_of v.groups i
       ∙ ap (option_map prefix_of) group_seen)
 
   -- an edit of the row
-  pub edited : (edit : EmailGroup → EmailGroup) (f : EmailRow)
-      → row_group v.pool (row_of f) ≡ edit (row_group v.pool (row_of e))
-      → ForSome (slice_get v.groups i) (λ g. contents pool (rows_of (set es i f)) ≡ with_group_at v i (edit g))
-  edited edit f does g at = contents-placed es h is (Ok i) f
+  pub edited : (edit : EmailGroup → EmailGroup) (f : Row) → row_group v.pool f ≡ edit (row_group v.pool row)
+      → ForSome (slice_get v.groups i) (λ g. contents pool (set (rows_of es ns) i f) ≡ with_group_at v i (edit g))
+  edited edit f does g at = contents-placed (rows_of es ns) h.rows is (Ok i) f
       ∙ ap (with_group_at v i) (does ∙ ap edit (let seen = group_seen in cc))
 
-  pub tables-set : (f : EmailRow) → RowInPool pool (row_of f)
-      → spelled pool (old_span f.texts) ≡ spelled pool (old_span e.texts) → (n : ℕ)
-      → n + length e.names.items ≡ count + length f.names.items → n < 2 ^ 63
-      → AreTables pool (rows_of (set es i f)) prefixes n
-  tables-set f lies same n names few =
-      let prefix : prefix_of (row_group pool (row_of f)) ≡ get_or prefixes i 0 =
+  pub rows-set : (f : Row) → IsRow pool f → spelled pool (old_span f.texts) ≡ spelled pool (old_span e.texts)
+      → AreRows pool (set (rows_of es ns) i f) prefixes
+  rows-set f its same =
+      let prefix : prefix_of (row_group pool f) ≡ get_or prefixes i 0 =
       ap (λ t. key_prefix 16 (folded t)) same ∙ sym (rw (← is) at (prefix_seen 0)) in
-      tables-placed es h is (Ok i) f lies lt prefixes (sym (ap (set prefixes i) prefix ∙ set-get_or prefixes i 0)) n
-      (rw group_seen (omega (arith, names, length-map e.names.items (stored_name v.pool)))) few
+      rows-placed (rows_of es ns) h.rows is (Ok i) f its prefixes
+      (sym (ap (set prefixes i) prefix ∙ set-get_or prefixes i 0))
 
-  -- a row with the same texts in its place
-  pub rows_same : (f : EmailRow) → row_of f ≡ row_of e → rows_of (set es i f) ≡ rows_of es
-  rows_same f same = map-set_same row_of es i f e (same ∙ ap row_of read)
+  -- with other texts
+  pub texts_tables : (t : RowTexts) → TextsInPool (length v.pool) t
+      → ForSome (slice_get v.groups i) (λ g. spelled v.pool (old_span t) ≡ g.old_email)
+      → AreTables pool (set es i (record e { texts = t })) ns prefixes
+  texts_tables t lies same = tables_laid_out _ ns (set (rows_of es ns) i (record row { texts = t }))
+      (texts_set h.ranges i e within read t) (texts_cover h.ranges i e within read t)
+      (rows-set (record row { texts = t }) (record {
+        in_pool = record { email_lies = rw (← is) at lies; names_lie = is_row.in_pool.names_lie };
+        ascending = is_row.ascending;
+      }) (rw (← is) at (same _ group_seen)))
+
+  pub texts_contents : (t : RowTexts) → ForSome (slice_get v.groups i) (λ g. spelled v.pool (old_span t) ≡ g.old_email)
+      → ForSome (slice_get v.groups i) (λ g. contents pool (rows_of (set es i (record e { texts = t })) ns)
+      ≡ with_group_at v i (record g { unnamed = fields_of v.pool t }))
+  texts_contents t same g at = ap (contents pool) (rows_laid_out _ ns (set (rows_of es ns) i (record row { texts = t }))
+      (texts_set h.ranges i e within read t) (texts_cover h.ranges i e within read t))
+      ∙ edited (λ g. record g { unnamed = fields_of v.pool t }) (record row { texts = t })
+      (λ j. record { old_email = same _ group_seen j; unnamed = fields_of v.pool t; names = map (stored_name v.pool) row.names })
+      g at
+
+  -- with a name put among its names
+  module _ (p : Result ℕ ℕ) (name : RowTexts) (place : ForSome (slice_get v.groups i) (λ g. IsSearchInRange p (length g.names))) where
+    abbrev named : Row
+    named = record row { names = placed row.names p name }
+
+    pub name_within : IsSearchInRange p (length row.names)
+    name_within = rw length-map at (place _ group_seen)
+
+    named_follow : emails_named es i p ≡ emails_of 0 (set (rows_of es ns) i named)
+    named_follow = name_follow h.ranges i e within read p name name_within
+
+    named_cover : placed ns (later e.names_start p) name ≡ names_of (set (rows_of es ns) i named)
+    named_cover = name_placed h.ranges i e within read p name name_within
+
+    pub named_tables : NameInPool (length v.pool) name → ForSome (slice_get v.groups i) (λ g. IsStrictlySortedBy text_cmp
+        (map folded_name (placed g.names p (stored_name v.pool name))))
+        → AreTables pool (emails_named es i p) (placed ns (later e.names_start p) name) prefixes
+    named_tables lies up = tables_laid_out _ _ (set (rows_of es ns) i named) named_follow named_cover
+        (rows-set named (record {
+          in_pool = record {
+            email_lies = is_row.in_pool.email_lies;
+            names_lie = all_placed _ row.names p name is_row.in_pool.names_lie (rw (← is) at lies);
+          };
+          ascending = subst (λ l. IsStrictlySortedBy text_cmp (map folded_name l))
+              (sym (map-placed (stored_name pool) row.names p name)) (rw (← is) at (up _ group_seen));
+        }) refl)
+
+    pub named_contents : ForSome (slice_get v.groups i)
+        (λ g. contents pool (rows_of (emails_named es i p) (placed ns (later e.names_start p) name))
+        ≡ with_group_at v i (record g { names = placed g.names p (stored_name v.pool name) }))
+    named_contents g at = ap (contents pool) (rows_laid_out _ _ (set (rows_of es ns) i named) named_follow named_cover)
+        ∙ edited (λ g. record g { names = placed g.names p (stored_name v.pool name) }) named
+        (ap (λ l. record (row_group v.pool row) { names = l }) (map-placed (stored_name v.pool) row.names p name)) g at
+
+-- ---- a new email
+
+new_ascends : (pool : Text) (texts : RowTexts) (name : Option RowTexts)
+    → IsStrictlySortedBy text_cmp (map folded_name (row_group pool (new_row texts name)).names)
+unfolding IsStrictlySortedBy
+new_ascends pool texts None = tt
+new_ascends pool texts (Some name) = (tt, tt)
+
+module _ {pool : Text} (es : List EmailRow) (ns : List RowTexts) {prefixes : List ℕ} (h : AreTables pool es ns prefixes)
+    {v : Contents} (is : contents pool (rows_of es ns) ≡ v) {i : ℕ} (le : i ≤ length v.groups) (texts : RowTexts)
+    (name : Option RowTexts) where
+  pub le_emails : i ≤ length es
+  le_emails = omega (arith, le, row_count_is pool es ns v is)
+
+  pub inserted_tables : EmailInPool v.pool texts (option_to_list name) → (new : List ℕ)
+      → new ≡ insert prefixes i (prefix_of (group_of v.pool texts (option_to_list name)))
+      → AreTables pool (emails_inserted es ns i texts name) (names_inserted es ns i name) new
+  inserted_tables lies new prefixed = tables_laid_out _ _ (insert (rows_of es ns) i (new_row texts name))
+      (inserted_follow h.ranges i le_emails texts name) (inserted_cover h.ranges i le_emails texts name)
+      (rows-placed (rows_of es ns) h.rows is (Err i) (new_row texts name) (record {
+        in_pool = rw (← is) at lies;
+        ascending = new_ascends pool texts name;
+      }) new (rw (← is) at prefixed))
+
+  pub inserted_contents : contents pool (rows_of (emails_inserted es ns i texts name) (names_inserted es ns i name))
+      ≡ record v { groups = insert v.groups i (group_of v.pool texts (option_to_list name)) }
+  inserted_contents = ap (contents pool) (rows_laid_out _ _ (insert (rows_of es ns) i (new_row texts name))
+      (inserted_follow h.ranges i le_emails texts name) (inserted_cover h.ranges i le_emails texts name))
+      ∙ contents-placed (rows_of es ns) h.rows is (Err i) (new_row texts name)
 
 -- ---- the number of rows, and why the listing is no longer
 

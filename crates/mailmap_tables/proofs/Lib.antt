@@ -2,6 +2,7 @@ pub mod Pooled
 pub mod RowsOfPool
 pub mod KeySearch
 pub mod Grouped
+pub mod Ranges
 pub mod Edited
 pub mod PutEntry
 pub mod Merged

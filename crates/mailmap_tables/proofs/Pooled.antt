@@ -1,14 +1,16 @@
 -- What tables represent when the pool grows. The names of what still holds then end in `_on`.
 use Rattle.std.proofs.lemmas.Grind.{common_steps}
 use Rattle.std.proofs.Common.{◌≡◌, ◌≤◌, ℕ, List, ◌++◌, map, length, Option, option_map, length-append}
-use Rattle.std.proofs.Common.{sym, ap, ◌∙◌, arith}
+use Rattle.std.proofs.Common.{sym, ap, subst, ◌∙◌, arith}
 use Rattle.std.specs.Option.{ForSome}
 use Rattle.std.specs.List.{AllByRecursion}
-use Rattle.mailmap_entries.specs.Folding.{Text}
+use Rattle.std.specs.List.Sorted.{IsStrictlySortedBy}
+use Rattle.mailmap_entries.specs.Folding.{Text, text_cmp}
 use Rattle.mailmap_entries.proofs.Parts.{all_weaker, map_alike}
-use Rattle.mailmap_tables.specs.Groups.{Contents, name_total}
-use Rattle.mailmap_tables.specs.Pool.{AreTables, Extends, LiesIn, NameInPool, Row, RowInPool, TextsInPool, contents}
-use Rattle.mailmap_tables.specs.Pool.{fields_of, stored_name, prefix_of, row_group, spelled}
+use Rattle.mailmap_tables.specs.Groups.{Contents, EmailGroup, folded_name}
+use Rattle.mailmap_tables.specs.Pool.{EmailInPool, Extends, LiesIn, NameInPool, Row, TextsInPool, contents, fields_of}
+use Rattle.mailmap_tables.specs.Pool.{stored_name, prefix_of, row_group, spelled}
+use Rattle.mailmap_tables.specs.Rows.{AreRows}
 use Rattle.mailmap_tables.specs.RowTexts.{old_span}
 use Rattle.mailmap_tables.specs.declared.texts.Span.{Span}
 use Rattle.mailmap_tables.specs.declared.texts.RowTexts.{RowTexts}
@@ -32,18 +34,18 @@ module _ (a b : Text) (to : Extends a b) where
   stored_names_on rs all = map_alike (stored_name b) (stored_name a) rs
       (all_weaker rs (λ r lies. cc (spelled_on (old_span r) lies.texts.old, fields_on r lies.texts)) all)
 
-  groups_on : (rows : List Row) → AllByRecursion (RowInPool a) rows → map (row_group b) rows ≡ map (row_group a) rows
-  groups_on rows lie = map_alike (row_group b) (row_group a) rows (all_weaker rows (λ r its. cc (
+  group_on : (r : Row) → EmailInPool a r.texts r.names → row_group b r ≡ row_group a r
+  group_on r its = cc (
     spelled_on (old_span r.texts) its.email_lies.old,
     fields_on r.texts its.email_lies,
     stored_names_on r.names its.names_lie,
-  )) lie)
+  )
 
   pub texts_lie_on : (t : RowTexts) → TextsInPool (length a) t → TextsInPool (length b) t
   texts_lie_on t lies = grind (arith, common_steps, grown)
 
-  row_lies_on : (r : Row) → RowInPool a r → RowInPool b r
-  row_lies_on r lies = record {
+  email_on : (r : Row) → EmailInPool a r.texts r.names → EmailInPool b r.texts r.names
+  email_on r lies = record {
     email_lies = texts_lie_on r.texts lies.email_lies;
     names_lie = all_weaker r.names (λ n its. record {
       texts = texts_lie_on n its.texts;
@@ -51,16 +53,21 @@ module _ (a b : Text) (to : Extends a b) where
     }) lies.names_lie;
   }
 
-  module _ (rows : List Row) {prefixes : List ℕ} {count : ℕ} (h : AreTables a rows prefixes count) where
-    pub tables_on : AreTables b rows prefixes count
-    tables_on = record {
-      lie = all_weaker rows row_lies_on h.lie;
-      prefix_each = h.prefix_each ∙ ap (map prefix_of) (sym (groups_on rows h.lie));
-      counted = h.counted ∙ ap name_total (sym (groups_on rows h.lie));
-      few = h.few;
+  module _ (rows : List Row) {prefixes : List ℕ} (h : AreRows a rows prefixes) where
+    groups_same : map (row_group b) rows ≡ map (row_group a) rows
+    groups_same = map_alike (row_group b) (row_group a) rows (all_weaker rows (λ r its. group_on r its.in_pool) h.each)
+
+    pub rows_on : AreRows b rows prefixes
+    rows_on = record {
+      each = all_weaker rows (λ r its. record {
+        in_pool = email_on r its.in_pool;
+        ascending = subst (λ (g : EmailGroup). IsStrictlySortedBy text_cmp (map folded_name g.names))
+            (sym (group_on r its.in_pool)) its.ascending;
+      }) h.each;
+      prefix_each = h.prefix_each ∙ ap (map prefix_of) (sym groups_same);
     }
 
     pub contents_on : (t : Contents) → contents a rows ≡ t
         → contents b rows ≡ record t { pool = t.pool ++ to.0 }
-    contents_on t is = (λ i. record { pool = to.1 i; groups = groups_on rows h.lie i })
+    contents_on t is = (λ i. record { pool = to.1 i; groups = groups_same i })
         ∙ ap (λ (v : Contents). record v { pool = v.pool ++ to.0 }) is

@@ -220,6 +220,12 @@ module _ (m : Mapping) {gs : List EmailGroup} (are : AreGroups gs) (i : ℕ) whe
         put_there h refl names_ascend [] (unnamed_entries g) (map (name_entry g.old_email) g.names) v refl
         (grind (arith, common_steps)) (grind arith) refl (own_once g spelt plain refl good)
 
+    pub names_ascend_with : (name : Text) (r : Result ℕ ℕ) → IsPlace folded_name (folded name) g.names r
+        → IsStrictlySortedBy text_cmp (map folded_name (placed g.names r (name_given (spelled_name g.names r name) m)))
+    names_ascend_with name r place =
+        placed_sorted folded_name (folded name) g.names r (name_given (spelled_name g.names r name) m)
+        (name_same name (found_in g.names r) (found_same folded_name (folded name) g.names r place)) names_ascend place
+
     pub name_put : (name : Text) → m.old_name ≡ Some name → IsPaired m → (r : Result ℕ ℕ)
         → IsPlace folded_name (folded name) g.names r
         → IsPutInto m gs i (set gs i (record g { names = placed g.names r (name_given (spelled_name g.names r name) m) }))
@@ -231,7 +237,7 @@ module _ (m : Mapping) {gs : List EmailGroup} (are : AreGroups gs) (i : ℕ) whe
         let within = place_within folded_name (folded name) ns r place in
         let same = name_same name (found_in ns r) (found_same folded_name (folded name) ns r place) in
         put_there (record g { names = placed ns r n }) refl
-        (placed_sorted folded_name (folded name) ns r n same names_ascend place)
+        (names_ascend_with name r place)
         (unnamed_entries g ++ map row (take (index_of r) ns)) (map row (option_to_list (found_in ns r)))
         (map row (after ns r)) (row n)
         (ap (λ l. unnamed_entries g ++ map row l) (old_parts n ns r within)

@@ -5,5 +5,6 @@ pub use Rattle.mailmap_entries.specs.Prefixes
 pub mod Groups
 pub mod RowTexts
 pub mod Pool
+pub mod Rows
 pub mod KeySearch
 pub mod Put

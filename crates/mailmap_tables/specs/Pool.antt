@@ -1,5 +1,5 @@
 -- Texts in a pool of bytes, and tables whose rows say where their texts are in it.
-use Rattle.std.specs.Prelude.{◌≡◌, ◌<◌, ◌≤◌, ◌+◌, ◌^◌, ◌++◌, ℕ, List, [], Option, IsSome, map, take, drop}
+use Rattle.std.specs.Prelude.{◌≡◌, ◌≤◌, ◌+◌, ◌++◌, ℕ, List, [], Option, IsSome, map, take, drop}
 use Rattle.std.specs.Prelude.{length, slice_set, unwrap_or}
 use Rattle.std.specs.Option.{option_map, ForSome}
 use Rattle.std.specs.List.{AllByRecursion}
@@ -7,13 +7,12 @@ use Rattle.mailmap_entries.specs.Folding.{Text}
 use Rattle.mailmap_entries.specs.Prefixes.{key_prefix}
 use Rattle.mailmap_entries.specs.Semantics.{Fields}
 use Rattle.mailmap_entries.specs.Entries.{Mapping}
-use Rattle.mailmap_tables.specs.Groups.{Contents, EmailGroup, StoredName, folded_email, listing, name_entry, name_total}
+use Rattle.mailmap_tables.specs.Groups.{Contents, EmailGroup, StoredName, folded_email, listing, name_entry}
 use Rattle.mailmap_tables.specs.RowTexts.{byte_count, email_span, name_span, old_span, span_of}
 use Rattle.mailmap_tables.specs.declared.texts.Source.{Source}
 use Rattle.mailmap_tables.specs.declared.texts.Source.TheVariants.{Given, Pool}
 use Rattle.mailmap_tables.specs.declared.texts.Span.{Span}
 use Rattle.mailmap_tables.specs.declared.texts.RowTexts.{RowTexts}
-use Rattle.mailmap_tables.specs.declared.rows.EmailRow.{EmailRow}
 
 -- the bytes at a span
 abbrev pub spelled : Text → Span → Text
@@ -62,35 +61,17 @@ pub record EmailInPool (pool : Text) (t : RowTexts) (ns : List RowTexts) : Type 
   pub email_lies : TextsInPool (length pool) t
   pub names_lie : AllByRecursion (NameInPool (length pool)) ns
 
--- an email's row: its texts and the rows of its names, wherever these are in memory
+-- the texts of an email and the rows of its names
 pub record Row : Type 0 where
   pub texts : RowTexts
   pub names : List RowTexts
 
-abbrev pub row_of : EmailRow → Row
-row_of e = record { texts = e.texts; names = e.names.items }
-
-abbrev pub rows_of : List EmailRow → List Row
-rows_of es = map row_of es
-
 abbrev pub row_group : Text → Row → EmailGroup
 row_group pool r = group_of pool r.texts r.names
-
-abbrev pub RowInPool : Text → Row → Type 0
-RowInPool pool r = EmailInPool pool r.texts r.names
 
 -- the key prefix of an email
 abbrev pub prefix_of : EmailGroup → ℕ
 prefix_of g = key_prefix 16 (folded_email g)
-
--- What always holds of tables. The order of the emails isn't in it: `insert_email` and others edit the row that their
--- caller names, and only the caller knows that this keeps the order. It is in `AreGroups`, which `merge` and `put`
--- require and keep. There are so few names that they and the emails can be added up.
-pub record AreTables (pool : Text) (rows : List Row) (prefixes : List ℕ) (name_count : ℕ) : Type 0 where
-  pub lie : AllByRecursion (RowInPool pool) rows
-  pub prefix_each : prefixes ≡ map prefix_of (map (row_group pool) rows)
-  pub counted : name_count ≡ name_total (map (row_group pool) rows)
-  pub few : name_count < 2 ^ 63
 
 abbrev pub contents : Text → List Row → Contents
 contents pool rows = record { pool = pool; groups = map (row_group pool) rows }

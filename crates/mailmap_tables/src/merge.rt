@@ -16,6 +16,7 @@ use crate::tables::Tables;
 use mailmap_batches::batch::sorted;
 use mailmap_batches::groups::{earliest, email_group_len};
 use mailmap_batches::indexed::IndexedEntry;
+use mailmap_entries::fold::prefix::Prefixed;
 use mailmap_entries::{Entry, entry_of};
 use std::alloc::{AllocError, Global};
 
@@ -62,7 +63,7 @@ impl Tables {
         ensures err { OnErr result (self.new.groups ≡ self.old.groups) }
     {
         if let [entry] = entries.as_slice() {
-            self.put(entry.old_email(), entry)?;
+            self.put(Prefixed::new(entry.old_email()), entry)?;
             return Ok(());
         }
         let alloc = self.allocator();
@@ -166,7 +167,7 @@ fn built(alloc: Global, entries: &[Entry<'_>]) -> Result<Tables, AllocError>
     while !left.is_empty() {
         let len = email_group_len(left);
         let (group, rest) = (&left[..len], &left[len..]);
-        put_group(&mut tables, earliest(group).entry.old_email(), group)?;
+        put_group(&mut tables, earliest(group).email(), group)?;
         left = rest;
     }
     Ok(tables.as_newly_built())
@@ -195,14 +196,14 @@ fn entry_len(entry: &Entry<'_>) -> usize {
 // Puts the entries for one email into tables, with this spelling of it.
 fn put_group(
     tables: &mut Tables,
-    email: &[u8],
+    email: Prefixed<'_>,
     group: &[IndexedEntry<'_, '_>],
 ) -> Result<(), AllocError>
     requires groups { AreGroups tables.old.groups }
     requires some { 0 < length group.now }
     requires accepted { All (λ p. is_accepted (mapping_at p) ≡ true) group.now }
     ensures { OnOk result (Represent
-        (listing tables.old.groups ++ map (λ p. with_old_email email.now (mapping_at p)) group.now) tables.new.groups) }
+        (listing tables.old.groups ++ map (λ p. with_old_email email.entry.text.now (mapping_at p)) group.now) tables.new.groups) }
 {
     if let [only] = group {
         tables.put(email, only.entry)?;
@@ -211,7 +212,7 @@ fn put_group(
     let (start, count) = combined_start(group);
     let index = tables.put(email, &start)?;
     for i in count..group.len() {
-        tables.put_at(index, email, group[i].entry)?;
+        tables.put_at(index, email.text, group[i].entry)?;
     }
     Ok(())
 }
@@ -261,7 +262,7 @@ fn put_each(mut tables: Tables, entries: &[Entry<'_>]) -> Result<Tables, AllocEr
     ensures { IfOk result (λ made. Represent (listing tables.groups ++ map mapping_of entries.now) made.groups) }
 {
     for entry in entries {
-        tables.put(entry.old_email(), entry)?;
+        tables.put(Prefixed::new(entry.old_email()), entry)?;
     }
     Ok(tables)
 }

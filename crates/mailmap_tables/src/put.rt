@@ -3,17 +3,17 @@
 ghost use Rattle.std.specs.Prelude.{◌≡◌, ℕ, IfOk, OnErr, OnOk, length, map, true};
 ghost use Rattle.std.specs.List.{AllByRecursion};
 ghost use Rattle.std.specs.List.Sorted.{IsSearchInRange};
-ghost use Rattle.std.specs.Option.{ForSome, option_copied, option_map, option_or};
+ghost use Rattle.std.specs.Option.{ForSome, option_copied, option_map, option_or, option_to_list};
 ghost use Rattle.mailmap_entries.specs.Entries.{mapping_of};
 ghost use Rattle.mailmap_entries.specs.Folding.{Text, folded};
 ghost use Rattle.mailmap_entries.specs.Semantics.{is_accepted, new_fields};
 ghost use Rattle.mailmap_tables.specs.KeySearch.{IsFound};
 ghost use Rattle.mailmap_tables.specs.Groups.{AreGroups, folded_email};
 ghost use Rattle.mailmap_tables.specs.Put.{IsPutInto, email_given, spelled_name, with_old_email};
-ghost use Rattle.mailmap_tables.specs.Pool.{IsGrown, HasTexts, IsWithin, LiesIn, NameInPool, RowInPool, stored_name, row_group};
-ghost use Rattle.mailmap_tables.specs.Pool.{row_of, spelled, text_of};
+ghost use Rattle.mailmap_tables.specs.Pool.{EmailInPool, IsGrown, HasTexts, IsWithin, LiesIn, NameInPool, group_of, stored_name};
+ghost use Rattle.mailmap_tables.specs.Pool.{spelled, text_of};
 
-use crate::rows::{EmailRow, NameRow};
+use crate::rows::NameRow;
 use crate::search::{place_of_email, place_of_name};
 use crate::tables::Tables;
 use crate::texts::{RowTexts, Source, Span};
@@ -27,22 +27,25 @@ impl Tables {
     ///
     /// Without an old name, its new fields override those of its email. With an old name, its fields replace both
     /// fields of that name, or the name is added. An email that isn't there is added.
-    pub(crate) fn put(&mut self, email: &[u8], entry: &Entry<'_>) -> Result<usize, AllocError>
+    pub(crate) fn put(
+        &mut self,
+        email: Prefixed<'_>,
+        entry: &Entry<'_>,
+    ) -> Result<usize, AllocError>
         requires groups { AreGroups self.old.groups }
         requires accepted { is_accepted (mapping_of entry.now) ≡ true }
-        ensures ok { IfOk result (λ index. IsPutInto (with_old_email email.now (mapping_of entry.now))
+        ensures ok { IfOk result (λ index. IsPutInto (with_old_email email.entry.text.now (mapping_of entry.now))
             self.old.groups index self.new.groups) }
         ensures err { OnErr result (self.new.groups ≡ self.old.groups) }
     {
-        let email = Prefixed::new(email);
         match place_of_email(&self.view(), email) {
             Ok(index) => {
                 self.put_at(index, email.text, entry)?;
                 Ok(index)
             }
             Err(index) => {
-                let row = self.append_email(email.text, entry)?;
-                self.insert_email(index, email.prefix, row)?;
+                let (texts, name) = self.append_email(email.text, entry)?;
+                self.insert_email(index, email.prefix, texts, name)?;
                 Ok(index)
             }
         }
@@ -81,25 +84,26 @@ impl Tables {
         self.place_name(index, place, row)
     }
 
-    // Appends the texts of an email with one entry to the pool.
-    fn append_email(&mut self, email: &[u8], entry: &Entry<'_>) -> Result<EmailRow, AllocError>
+    // Appends the texts of an email with one entry to the pool, those of the email and those of the entry's old name.
+    fn append_email(
+        &mut self,
+        email: &[u8],
+        entry: &Entry<'_>,
+    ) -> Result<(RowTexts, Option<NameRow>), AllocError>
         ensures grown { IsGrown self.old self.new }
-        ensures in_pool { IfOk result (λ row. RowInPool self.new.pool (row_of row)) }
-        ensures row { IfOk result (λ row. row_group self.new.pool (row_of row)
+        ensures in_pool { IfOk result (λ made. EmailInPool self.new.pool made.0 (option_to_list made.1)) }
+        ensures row { IfOk result (λ made. group_of self.new.pool made.0 (option_to_list made.1)
             ≡ email_given (with_old_email email.now (mapping_of entry.now)) (mapping_of entry.now).old_name) }
     {
-        let alloc = self.allocator();
         match entry.old_name() {
             None => {
                 let texts = self.append_entry(Source::Given(email), entry)?;
-                let names = Vec::new(alloc);
-                Ok(EmailRow { texts, names })
+                Ok((texts, None))
             }
             Some(old_name) => {
                 let texts = self.append_row(Source::Given(email), None, None)?;
                 let name = self.append_entry(Source::Given(old_name), entry)?;
-                let names = Vec::from_slice(alloc, &[name])?;
-                Ok(EmailRow { texts, names })
+                Ok((texts, Some(name)))
             }
         }
     }

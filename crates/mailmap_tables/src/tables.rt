@@ -1,13 +1,17 @@
-//! The tables of a snapshot: a pool with the bytes of all texts, and a table of emails with their names, whose rows say
-//! where their texts are in the pool.
-ghost use Rattle.std.specs.Prelude.{◌≡◌, ◌+◌, ◌<◌, ◌≤◌, ◌^◌, [], IfOk, OnErr, OnOk, length, slice_get};
-ghost use Rattle.std.specs.List.{insert};
-ghost use Rattle.std.specs.List.Sorted.{IsSearchInRange};
-ghost use Rattle.std.specs.Option.{ForSome, option_map};
+//! The tables of a snapshot: a pool with the bytes of all texts, a table of emails, and a table of the names of all
+//! emails. The rows say where their texts are in the pool, and where the names of an email begin.
+ghost use Rattle.std.specs.Prelude.{◌≡◌, ◌<◌, ◌≤◌, [], IfOk, OnErr, OnOk, if◌then◌else◌, is_ok, length, map};
+ghost use Rattle.std.specs.Prelude.{slice_get, vec_capacity, vec_len};
+ghost use Rattle.std.specs.List.{AllByRecursion, insert};
+ghost use Rattle.std.specs.List.Sorted.{IsSearchInRange, IsStrictlySortedBy};
+ghost use Rattle.std.specs.Option.{ForSome, option_map, option_to_list};
+ghost use Rattle.mailmap_entries.specs.Folding.{text_cmp};
+ghost use Rattle.mailmap_tables.specs.Groups.{folded_name};
 ghost use Rattle.mailmap_tables.specs.KeySearch.{placed};
-ghost use Rattle.mailmap_tables.specs.Pool.{rows_of};
+ghost use Rattle.mailmap_tables.specs.Rows.{raised, raised_from};
+ghost use Rattle.mailmap_tables.specs.declared.rows.EmailRow.{EmailRow};
 
-use crate::rows::{EmailRow, NameRow};
+use crate::rows::{EmailRow, NameRow, names_start};
 use crate::texts::{RowTexts, Source, append_row};
 use crate::view::View;
 use std::alloc::{AllocError, Global};
@@ -16,9 +20,6 @@ use std::marker::Model;
 // Before the tables are rebuilt, a pool may always grow by twice this: 2 KiB.
 const SPARE_LEN: usize = 1024;
 
-// The most names in tables, more than memory can hold.
-const MAX_NAMES: usize = (1 << 63) - 1;
-
 /// The pool and the table of emails.
 ///
 /// Contracts see the pool, and a group for each email.
@@ -26,10 +27,10 @@ const MAX_NAMES: usize = (1 << 63) - 1;
 pub struct Tables {
     pool: Vec<u8>,
     emails: Vec<EmailRow>,
+    // the names of the first email, those of the second, and so on
+    names: Vec<NameRow>,
     // the key prefix of each email, contiguous in memory: a search rarely reads more
     prefixes: Vec<u128>,
-    // the number of names of all emails
-    name_count: usize,
     // the length of the pool when the tables were built, with texts that later entries of the batch replaced
     built_len: usize,
 }
@@ -39,11 +40,12 @@ impl Model for Tables {
 
     ghost Value = { Contents };
 
-    ghost use Rattle.mailmap_tables.specs.Pool.{AreTables, contents, rows_of};
+    ghost use Rattle.mailmap_tables.specs.Pool.{contents};
+    ghost use Rattle.mailmap_tables.specs.Rows.{AreTables, rows_of};
 
-    ghost view = { λ t. contents t.pool.items (rows_of t.emails.items) };
+    ghost view = { λ t. contents t.pool.items (rows_of t.emails.items t.names.items) };
 
-    ghost invariant = { λ t. AreTables t.pool.items (rows_of t.emails.items) t.prefixes.items t.name_count };
+    ghost invariant = { λ t. AreTables t.pool.items t.emails.items t.names.items t.prefixes.items };
 }
 
 impl Tables {
@@ -56,26 +58,26 @@ impl Tables {
         Tables {
             pool: Vec::new(alloc),
             emails: Vec::new(alloc),
+            names: Vec::new(alloc),
             prefixes: Vec::new(alloc),
-            name_count: 0,
             built_len: 0,
         }
     }
 
-    /// Empty tables with capacity for this many emails, and for this many bytes of texts. Pages that aren't used stay
+    /// Empty tables with capacity for this many emails and names, and for this many bytes of texts. Pages that aren't used stay
     /// untouched, while tables that grow would leave holes in the memory.
     pub(crate) fn with_capacity(
         alloc: Global,
-        emails: usize,
+        rows: usize,
         bytes: usize,
     ) -> Result<Tables, AllocError>
         ensures { IfOk result (λ made. made ≡ record { pool = []; groups = [] }) }
     {
         Ok(Tables {
             pool: Vec::with_capacity(alloc, bytes)?,
-            emails: Vec::with_capacity(alloc, emails)?,
-            prefixes: Vec::with_capacity(alloc, emails)?,
-            name_count: 0,
+            emails: Vec::with_capacity(alloc, rows)?,
+            names: Vec::with_capacity(alloc, rows)?,
+            prefixes: Vec::with_capacity(alloc, rows)?,
             built_len: 0,
         })
     }
@@ -83,7 +85,7 @@ impl Tables {
     pub fn view(&self) -> View<'_>
         ensures { result ≡ self.now }
     {
-        View::of(&self.pool, &self.emails, &self.prefixes, self.name_count)
+        View::of(&self.pool, &self.emails, &self.names, &self.prefixes)
     }
 
     pub fn try_clone(&self, alloc: Global) -> Result<Tables, AllocError>
@@ -91,9 +93,9 @@ impl Tables {
     {
         Ok(Tables {
             pool: Vec::from_slice(alloc, &self.pool)?,
-            emails: copied(alloc, &self.emails)?,
+            emails: Vec::from_slice(alloc, &self.emails)?,
+            names: Vec::from_slice(alloc, &self.names)?,
             prefixes: Vec::from_slice(alloc, &self.prefixes)?,
-            name_count: self.name_count,
             built_len: self.built_len,
         })
     }
@@ -116,25 +118,11 @@ impl Tables {
     }
 }
 
-fn copied(alloc: Global, rows: &[EmailRow]) -> Result<Vec<EmailRow>, AllocError>
-    ensures { IfOk result (λ copy. rows_of copy.items ≡ rows_of rows.now) }
-{
-    let mut copy = Vec::with_capacity(alloc, rows.len())?;
-    for row in rows {
-        let names = Vec::from_slice(alloc, &row.names)?;
-        copy.push(EmailRow {
-            texts: row.texts,
-            names,
-        })?;
-    }
-    Ok(copy)
-}
-
 /// Changes of single rows.
 impl Tables {
     ghost use Rattle.mailmap_tables.specs.Groups.{Contents};
-    ghost use Rattle.mailmap_tables.specs.Pool.{IsGrown, HasTexts, IsWithin, NameInPool, RowInPool, TextsInPool, fields_of};
-    ghost use Rattle.mailmap_tables.specs.Pool.{stored_name, prefix_of, row_group, row_of, spelled, text_of, with_group_at};
+    ghost use Rattle.mailmap_tables.specs.Pool.{IsGrown, HasTexts, IsWithin, NameInPool, TextsInPool, fields_of, stored_name};
+    ghost use Rattle.mailmap_tables.specs.Pool.{EmailInPool, group_of, prefix_of, spelled, text_of, with_group_at};
     ghost use Rattle.mailmap_tables.specs.RowTexts.{old_span};
 
     /// Appends the texts of a row to the pool.
@@ -169,7 +157,8 @@ impl Tables {
         self.emails[index].texts = texts;
     }
 
-    /// Replaces the row at a place among the names of an email, or inserts it there.
+    /// Replaces the row at a place among the names of an email, or inserts it there. Inserted, it moves the rows after
+    /// it, and where the names of later emails begin.
     pub(crate) fn place_name(
         &mut self,
         index: usize,
@@ -179,69 +168,94 @@ impl Tables {
         requires index { index < length self.old.groups }
         requires place { ForSome (slice_get self.old.groups index) (λ g. IsSearchInRange place (length g.names)) }
         requires in_pool { NameInPool (length self.old.pool) row }
+        requires ascending { ForSome (slice_get self.old.groups index) (λ g. IsStrictlySortedBy text_cmp
+            (map folded_name (placed g.names place (stored_name self.old.pool row)))) }
         ensures ok { OnOk result (ForSome (slice_get self.old.groups index) (λ g. self.new
             ≡ with_group_at self.old index
             (record g { names = placed g.names place (stored_name self.old.pool row) }))) }
         ensures err { OnErr result (self.new ≡ self.old) }
     {
-        let count = with_more(self.name_count, usize::from(place.is_err()))?;
-        place_row(&mut self.emails[index].names, place, row)?;
-        self.name_count = count;
-        Ok(())
+        let start = self.emails[index].names_start;
+        match place {
+            Ok(at) => {
+                self.names[start + at] = row;
+                Ok(())
+            }
+            Err(at) => {
+                insert_name(
+                    &mut self.names,
+                    start + at,
+                    row,
+                    &mut self.emails,
+                    index + 1,
+                )?;
+                Ok(())
+            }
+        }
     }
 
-    /// Inserts an email before the one at an index.
+    /// Inserts an email before the one at an index, with a name or none.
     pub(crate) fn insert_email(
         &mut self,
         index: usize,
         prefix: u128,
-        row: EmailRow,
+        texts: RowTexts,
+        name: Option<NameRow>,
     ) -> Result<(), AllocError>
         requires index { index ≤ length self.old.groups }
-        requires prefix { prefix ≡ prefix_of (row_group self.old.pool (row_of row)) }
-        requires in_pool { RowInPool self.old.pool (row_of row) }
-        ensures ok { OnOk result
-            (self.new ≡ record self.old { groups = insert self.old.groups index (row_group self.old.pool (row_of row)) }) }
+        requires prefix { prefix ≡ prefix_of (group_of self.old.pool texts (option_to_list name)) }
+        requires in_pool { EmailInPool self.old.pool texts (option_to_list name) }
+        ensures ok { OnOk result (self.new ≡ record self.old {
+          groups = insert self.old.groups index (group_of self.old.pool texts (option_to_list name));
+        }) }
         ensures err { OnErr result (self.new ≡ self.old) }
     {
-        let count = with_more(self.name_count, row.names.len())?;
-        // so that the second of two insertions can't fail
+        // so that none but the first insertion can fail
         self.emails.reserve(1)?;
+        self.names.reserve(usize::from(name.is_some()))?;
         self.prefixes.insert(index, prefix)?;
-        self.emails.insert(index, row)?;
-        self.name_count = count;
+        let names_start = names_start(&self.emails, &self.names, index);
+        self.emails.insert(index, EmailRow { texts, names_start })?;
+        let Some(name) = name else {
+            return Ok(());
+        };
+        insert_name(
+            &mut self.names,
+            names_start,
+            name,
+            &mut self.emails,
+            index + 1,
+        )?;
         Ok(())
     }
 }
 
-// The number of names with some more.
-fn with_more(count: usize, more: usize) -> Result<usize, AllocError>
-    requires { count < 2 ^ 63 }
-    ensures { IfOk result (λ n. (n ≡ count + more) × (n < 2 ^ 63)) }
+// Inserts a name at an index of the table of names, and moves the names of the emails from `next` on.
+fn insert_name(
+    names: &mut Vec<NameRow>,
+    at: usize,
+    name: NameRow,
+    emails: &mut Vec<EmailRow>,
+    next: usize,
+) -> Result<(), AllocError>
+    requires at { at ≤ length names.old.items }
+    requires next { next ≤ length emails.old.items }
+    requires few { AllByRecursion (λ (e : EmailRow). e.names_start < usize.MAX) emails.old.items }
+    ensures names { names.new.items ≡ (if is_ok result then insert names.old.items at name else names.old.items) }
+    ensures emails { emails.new.items ≡ (if is_ok result then raised_from emails.old.items next else emails.old.items) }
+    ensures full { OnErr result (vec_capacity names.old ≤ vec_len names.old) }
 {
-    if MAX_NAMES - count < more {
-        return Err(AllocError);
-    }
-    Ok(count + more)
+    names.insert(at, name)?;
+    raise_starts(&mut emails[next..]);
+    Ok(())
 }
 
-fn place_row(
-    rows: &mut Vec<NameRow>,
-    place: Result<usize, usize>,
-    row: NameRow,
-) -> Result<(), AllocError>
-    requires { IsSearchInRange place (length rows.old.items) }
-    ensures ok { OnOk result (rows.new.items ≡ placed rows.old.items place row) }
-    ensures err { OnErr result (rows.new.items ≡ rows.old.items) }
+// Raises by one where the names of these emails begin.
+fn raise_starts(emails: &mut [EmailRow])
+    requires { AllByRecursion (λ (e : EmailRow). e.names_start < usize.MAX) emails.old }
+    ensures { emails.new ≡ map raised emails.old }
 {
-    match place {
-        Ok(index) => {
-            rows[index] = row;
-            Ok(())
-        }
-        Err(index) => {
-            rows.insert(index, row)?;
-            Ok(())
-        }
+    for email in emails {
+        email.names_start += 1;
     }
 }

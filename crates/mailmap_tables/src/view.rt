@@ -1,20 +1,20 @@
 //! Read access to tables, for lookups, listings and merges.
-ghost use Rattle.std.specs.Prelude.{◌≡◌, ◌≤◌, ◌<◌, length, map, Some, slice_get, slice_index_or};
+ghost use Rattle.std.specs.Prelude.{◌≡◌, ◌≤◌, ◌<◌, ◌-◌, drop, length, map, Some, slice_get, slice_index_or, take};
 ghost use Rattle.std.specs.Option.{option_map, option_copied, ForSome};
 
-use crate::rows::{EmailRow, NameRow};
+use crate::rows::{EmailRow, NameRow, names_start};
 use crate::texts::{RowTexts, Span, byte_count, span_of};
 use mailmap_entries::fold::prefix::Prefixed;
 use std::marker::Model;
 
 /// A read-only view of the pool and the tables. Its functions hand out slices and numbers, so a function that gets
-/// nothing else can't allocate: of what a view has, only this module reaches the vectors, and through them an allocator.
+/// nothing else can't allocate.
 #[derive(Drop)]
 pub struct View<'a> {
     pool: &'a [u8],
     emails: &'a [EmailRow],
+    names: &'a [NameRow],
     prefixes: &'a [u128],
-    name_count: usize,
 }
 
 impl<'a> Model for View<'a> {
@@ -22,33 +22,34 @@ impl<'a> Model for View<'a> {
 
     ghost Value = { Contents };
 
-    ghost use Rattle.mailmap_tables.specs.Pool.{AreTables, contents, rows_of};
+    ghost use Rattle.mailmap_tables.specs.Pool.{contents};
+    ghost use Rattle.mailmap_tables.specs.Rows.{AreTables, rows_of};
 
-    ghost view = { λ t. contents t.pool.now (rows_of t.emails.now) };
+    ghost view = { λ t. contents t.pool.now (rows_of t.emails.now t.names.now) };
 
-    ghost invariant = { λ t. AreTables t.pool.now (rows_of t.emails.now) t.prefixes.now t.name_count };
+    ghost invariant = { λ t. AreTables t.pool.now t.emails.now t.names.now t.prefixes.now };
 }
 
 impl<'a> View<'a> {
     ghost use Rattle.mailmap_tables.specs.Groups.{Contents, EmailGroup, listing, row_count};
-    ghost use Rattle.mailmap_tables.specs.Pool.{AreTables, LiesIn, EmailInPool, TextsInPool, contents, group_of, rows_of};
-    ghost use Rattle.mailmap_tables.specs.Pool.{spelled};
+    ghost use Rattle.mailmap_tables.specs.Pool.{LiesIn, EmailInPool, TextsInPool, contents, group_of, spelled};
     ghost use Rattle.mailmap_tables.specs.RowTexts.{email_span, name_span};
+    ghost use Rattle.mailmap_tables.specs.Rows.{AreTables, rows_of};
 
     pub(crate) fn of(
         pool: &'a [u8],
         emails: &'a [EmailRow],
+        names: &'a [NameRow],
         prefixes: &'a [u128],
-        name_count: usize,
     ) -> View<'a>
-        requires { AreTables pool.now (rows_of emails.now) prefixes.now name_count }
-        ensures { result ≡ contents pool.now (rows_of emails.now) }
+        requires { AreTables pool.now emails.now names.now prefixes.now }
+        ensures { result ≡ contents pool.now (rows_of emails.now names.now) }
     {
         View {
             pool,
             emails,
+            names,
             prefixes,
-            name_count,
         }
     }
 
@@ -64,7 +65,7 @@ impl<'a> View<'a> {
         ensures rows { result ≡ row_count self.now }
         ensures listing { length (listing self.now.groups) ≤ result }
     {
-        self.emails.len() + self.name_count
+        self.emails.len() + self.names.len()
     }
 
     /// The text at a span.
@@ -121,7 +122,8 @@ impl<'a> View<'a> {
         ensures in_pool { EmailInPool self.now.pool result.0 result.1.now }
     {
         let row = at(self.emails, index);
-        (row.texts, row.names.as_slice())
+        let end = names_start(self.emails, self.names, index + 1);
+        (row.texts, part(self.names, row.names_start, end))
     }
 }
 
@@ -131,4 +133,13 @@ fn at<T>(rows: &[T], index: usize) -> &T
     ensures { result.now ≡ slice_index_or rows.now index result.now }
 {
     &rows[index]
+}
+
+// The names from one index up to another.
+fn part(names: &[NameRow], from: usize, to: usize) -> &[NameRow]
+    requires up { from ≤ to }
+    requires within { to ≤ length names.now }
+    ensures { result.now ≡ take (to - from) (drop from names.now) }
+{
+    &names[from..to]
 }

@@ -12,10 +12,10 @@ use command_line::files::System;
 use command_line::messages::{self, cause_text, push_failure};
 use command_line::outcome::exit_code;
 use command_line::shown::push_shown;
+use mailmap_report::places::push_position;
 use std::alloc::{AllocError, Global};
 use std::process::ExitCode;
 use verify_command::failure::TaskFailure;
-use verify_command::report::push_position;
 use verify_command::task::{Mode, ParseError, Request, Setting, perform, request_of};
 
 const PROGRAM: &[u8] = b"mailmap_verify";

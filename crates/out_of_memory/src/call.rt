@@ -45,9 +45,8 @@ pub enum Call {
     /// Calls that accept or write nothing and so don't allocate, and other calls that don't.
     Nothing,
     NoMemory,
-    /// Allocations of this program: before all calls, just before and just after the calls that accept or write
-    /// nothing, and just after the other calls that don't allocate.
-    Before,
+    /// Allocations of this program: just before and just after the calls that accept or write nothing, and just after
+    /// the other calls that don't allocate.
     AheadOfNothing,
     AfterNothing,
     AfterAll,

@@ -2,7 +2,11 @@
 
 use crate::call::Call;
 use crate::run::{Run, Wrong};
-use crate::samples::{CONTACTS, FAULTY, HISTORY, JANE, NOBODY, PARTS, TEAM, name, named, team};
+use crate::samples::{
+    ANSWERS, CONTACTS, FAULTY, HISTORY, JANE, JANE_DOE, NOBODY, PARTS, TEAM, WRITTEN, name, named,
+    team,
+};
+use gix_mailmap::actor::SignatureRef;
 use gix_mailmap::check::{self, ContactStream};
 use gix_mailmap::needs::unneeded;
 use gix_mailmap::snapshot::{Source, WriteError};
@@ -33,18 +37,30 @@ pub fn judge(run: &mut Run, alloc: Global) -> Result<Snapshot, Wrong> {
 }
 
 fn read_and_write(run: &mut Run, alloc: Global, snapshot: &Snapshot) -> Result<(), Wrong> {
-    let _read = run.judge(Call::FromBytes, || Snapshot::from_bytes(alloc, TEAM))?;
-    let _count = run.judge(Call::Entries, || Ok(snapshot.entries(alloc)?.len()))?;
-    let _copy = clone(run, alloc, snapshot)?;
-    let _text = run.judge(Call::Write, || written(snapshot, alloc))?;
-    Ok(())
+    let read = run.judge(Call::FromBytes, || Snapshot::from_bytes(alloc, TEAM))?;
+    answers(Call::FromBytes, read == *snapshot)?;
+    let listed = || Ok(snapshot.entries(alloc)?.as_slice() == team().as_slice());
+    answers(Call::Entries, run.judge(Call::Entries, listed)?)?;
+    let copy = clone(run, alloc, snapshot)?;
+    answers(Call::TryClone, copy == *snapshot)?;
+    let text = run.judge(Call::Write, || written(snapshot, alloc))?;
+    answers(Call::Write, text.as_slice() == WRITTEN)
 }
 
-// The text of a snapshot, `None` if it has an entry that no line can hold.
-fn written(snapshot: &Snapshot, alloc: Global) -> Result<Option<Vec<u8>>, AllocError> {
+// A call has to answer what it does with ample memory.
+fn answers(call: Call, right: bool) -> Result<(), Wrong> {
+    if right {
+        Ok(())
+    } else {
+        Err(Wrong::Answer(call))
+    }
+}
+
+// The text of a snapshot, empty if it has an entry that no line can hold.
+fn written(snapshot: &Snapshot, alloc: Global) -> Result<Vec<u8>, AllocError> {
     match snapshot.write(alloc) {
-        Ok(text) => Ok(Some(text)),
-        Err(WriteError::Unwritable { .. }) => Ok(None),
+        Ok(text) => Ok(text),
+        Err(WriteError::Unwritable { .. }) => Ok(Vec::new(alloc)),
         Err(WriteError::Memory(error)) => Err(error),
     }
 }
@@ -126,22 +142,40 @@ fn lists_only(snapshot: &Snapshot, new_name: &[u8]) -> bool {
 
 // Resolves signatures that are mapped, and one that is only copied, and copies such signatures.
 fn resolve(run: &mut Run, alloc: Global, team: &Snapshot) -> Result<(), Wrong> {
-    let _answer = run.judge(Call::TryResolve, || team.try_resolve(alloc, JANE))?;
-    let _answer = run.judge(Call::Resolve, || team.resolve(alloc, JANE))?;
-    let _answer = run.judge(Call::ResolveNothing, || team.resolve(alloc, NOBODY))?;
+    let answer = run.judge(Call::TryResolve, || team.try_resolve(alloc, JANE))?;
+    answers(
+        Call::TryResolve,
+        answer.is_some_and(|found| owns(&found, JANE_DOE)),
+    )?;
+    let answer = run.judge(Call::Resolve, || team.resolve(alloc, JANE))?;
+    answers(Call::Resolve, owns(&answer, JANE_DOE))?;
+    let answer = run.judge(Call::ResolveNothing, || team.resolve(alloc, NOBODY))?;
+    answers(Call::ResolveNothing, owns(&answer, NOBODY))?;
     let jane = run.judge(Call::ResolveCow, || team.resolve_cow(alloc, JANE))?;
-    let _copy = run.judge(Call::SignatureTryClone, || jane.try_clone(alloc))?;
+    answers(Call::ResolveCow, jane == JANE_DOE.into())?;
+    let copy = run.judge(Call::SignatureTryClone, || jane.try_clone(alloc))?;
+    answers(Call::SignatureTryClone, copy == jane)?;
     let owned = || actor::Signature::from_cow(alloc, NOBODY.into());
-    let _owned = run.judge(Call::FromCow, owned)?;
-    Ok(())
+    let owned = run.judge(Call::FromCow, owned)?;
+    answers(Call::FromCow, owns(&owned, NOBODY))
+}
+
+// Whether a signature has the texts and the time of another one.
+fn owns(signature: &actor::Signature, wanted: SignatureRef<'_>) -> bool {
+    signature.name.as_slice() == wanted.name
+        && signature.email.as_slice() == wanted.email
+        && signature.time == wanted.time().unwrap_or_default()
 }
 
 // Answers contact lines: all at once, in parts, and a contact when its line ends, also after a refusal. Writes a
 // compact mailmap.
 fn answer(run: &mut Run, alloc: Global) -> Result<(), Wrong> {
-    let _answers = run.judge(Call::Check, || check::check(alloc, &[TEAM], CONTACTS))?;
-    let _mailmap = run.judge(Call::Compact, || check::compact(alloc, &[TEAM]))?;
-    let _answers = run.judge(Call::Stream, || streamed(alloc))?;
+    let text = run.judge(Call::Check, || check::check(alloc, &[TEAM], CONTACTS))?;
+    answers(Call::Check, text.as_slice() == ANSWERS)?;
+    let mailmap = run.judge(Call::Compact, || check::compact(alloc, &[TEAM]))?;
+    answers(Call::Compact, mailmap.as_slice() == WRITTEN)?;
+    let text = run.judge(Call::Stream, || streamed(alloc))?;
+    answers(Call::Stream, text.as_slice() == ANSWERS)?;
     let mut stream = run.judge(Call::NewStream, || ContactStream::new(alloc, &[TEAM]))?;
     let mut text = Vec::new(alloc);
     let line = b"bob <BUGS@example.com>";

@@ -11,6 +11,9 @@ pub enum Wrong {
     /// An out-of-memory error, though none of the call's allocations was refused.
     #[error("{0}: out of memory, but no request was refused")]
     Want(Call),
+    /// Another answer than with ample memory.
+    #[error("{0}: answered something else than with ample memory")]
+    Answer(Call),
     /// A call left something wrong. A refused one must leave all as it was.
     #[error("{0}: left something else than it should")]
     Change(Call),

@@ -23,6 +23,11 @@ pub fn team() -> [Entry<'static>; 2] {
     ]
 }
 
+/// The text that the snapshot of that mailmap is written as.
+pub const WRITTEN: &[u8] = b" Joe R. Developer <joe@example.com> <bugs@example.com>
+ Jane Doe <jane@example.com> Jane <bugs@example.com>
+";
+
 /// An entry that gives an email a new name.
 pub fn name<'a>(new_name: &'a [u8], email: &'a [u8]) -> Entry<'a> {
     Entry::change_name_by_email(new_name, email)
@@ -35,6 +40,12 @@ pub fn named<'a>(new_email: &'a [u8], old_name: &'a [u8], email: &'a [u8]) -> En
 
 /// Contact lines, and a line that is no contact.
 pub const CONTACTS: &[u8] = b"bob <BUGS@example.com>\nJANE <bugs@example.com>\nnot a contact\n";
+
+/// What that mailmap answers to these lines.
+pub const ANSWERS: &[u8] = b"Joe R. Developer <joe@example.com>
+Jane Doe <jane@example.com>
+not a contact
+";
 
 /// The same lines in parts. No part ends more than one line, so a refused allocation is always the first of its call.
 pub static PARTS: [&[u8]; 4] = [
@@ -64,6 +75,13 @@ pub static HISTORY: [&[u8]; 4] = [
 pub const JANE: SignatureRef<'static> = SignatureRef {
     name: b"Jane",
     email: b"bugs@example.com",
+    time: "1711398853 +0800",
+};
+
+/// What that signature is mapped to.
+pub const JANE_DOE: SignatureRef<'static> = SignatureRef {
+    name: b"Jane Doe",
+    email: b"jane@example.com",
     time: "1711398853 +0800",
 };
 

@@ -7,7 +7,7 @@
 use crate::call::Call;
 use crate::refusable::{build, clone};
 use crate::run::{Run, Wrong};
-use crate::samples::{FAULTY, JANE, NOBODY, TEAM, named, team};
+use crate::samples::{FAULTY, JANE, NOBODY, TEAM, name, named, team};
 use gix_mailmap::actor::SignatureRef;
 use gix_mailmap::explain::Explanations;
 use gix_mailmap::fold::Steps;
@@ -55,12 +55,16 @@ fn wants(call: Call, succeed: bool) -> Result<(), Wrong> {
 // Builds and merges nothing, and fails to write a snapshot with an entry that no line can hold, between two requests.
 fn accept_and_write_nothing(run: &mut Run, alloc: Global, team: &Snapshot) -> Result<(), Wrong> {
     let mut copy = clone(run, alloc, team)?;
-    let unwritable = build(run, alloc, &[Entry::change_email_by_email(b"n>y", b"b@x")])?;
+    let entries = [
+        name(b"N", b"a@x"),
+        Entry::change_email_by_email(b"n>y", b"b@x"),
+    ];
+    let unwritable = build(run, alloc, &entries)?;
     run.request(alloc, Call::AheadOfNothing)?;
     let succeed = Snapshot::new(alloc, [Entry::default()].into_iter()).is_ok()
         && Snapshot::from_bytes(alloc, b"plain").is_ok()
         && merges_nothing(&mut copy)
-        && unwritable.write(alloc) == Err(WriteError::Unwritable { index: 0 });
+        && unwritable.write(alloc) == Err(WriteError::Unwritable { place: 1 });
     wants(Call::Nothing, succeed)?;
     run.request(alloc, Call::AfterNothing)
 }

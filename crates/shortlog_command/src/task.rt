@@ -9,10 +9,10 @@ ghost use Rattle.shortlog_command.specs.Task.{FailsFor, IsAnswer, asked, asked_o
 
 use crate::shortlog::print_shortlog;
 use command_line::VERSION;
-use command_line::counting::count_contacts;
 use command_line::failure::Failure;
 use command_line::files::{FileSystem, list_of, read_files};
 use command_line::streams::write_all;
+use contact_input::counting::count_contacts;
 use std::alloc::Global;
 use std::io::{Read, Write};
 

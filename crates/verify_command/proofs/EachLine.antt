@@ -10,7 +10,7 @@ use Rattle.mailmap_grammar.proofs.SplitOnce.{held_before}
 use Rattle.mailmap_grammar.proofs.Trimmed.{trim-nil}
 use Rattle.mailmap_findings.specs.Positions.{whole_lines}
 use Rattle.mailmap_findings.proofs.Concatenated.{AreWhole, whole_lines-joined}
-use Rattle.verify_command.specs.Explained.{Grounds, each_line, explained_line}
+use Rattle.mailmap_report.specs.Explained.{Grounds, each_line, explained_line}
 
 one_line : (answer : Text → Text) (line : Text) → AreWhole (line ∷ []) → each_line answer line ≡ answer line
 one_line answer line are = ap (flat_map answer) (ap whole_lines (sym (append-nil line)) ∙ whole_lines-joined (line ∷ []) are) ∙ append-nil (answer line)

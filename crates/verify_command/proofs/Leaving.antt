@@ -13,14 +13,14 @@ use Rattle.command_line.specs.Printing.{AppendsFront, Prints}
 use Rattle.command_line.specs.declared.outcome.Outcome.{Outcome}
 use Rattle.command_line.specs.declared.outcome.Outcome.TheVariants.{Clean}
 use Rattle.verify_command.specs.Arguments.{can_be_mailmap, has_none}
-use Rattle.verify_command.specs.Explained.{AreGrounds, ExplainsBy, Grounds, each_line, explained_line}
-use Rattle.verify_command.specs.Report.{Piece, Says, outcome_of, text_of}
-use Rattle.verify_command.specs.Task.{AreContacts, AreMailmaps, EndsPrinting, Leaves, LeavesExplained, Wanted}
-use Rattle.verify_command.specs.Task.{WithContacts, is_dash, reads_mailmap, takes_contacts}
+use Rattle.mailmap_report.specs.Explained.{AreGrounds, Grounds, each_line, explained_line}
+use Rattle.mailmap_report.specs.Report.{Piece, text_of}
+use Rattle.verify_command.specs.Task.{AreContacts, AreMailmaps, EndsPrinting, ExplainsBy, FailsToRead, FromContacts, IsKnown, Leaves, LeavesExplained}
+use Rattle.verify_command.specs.Task.{LeavesFor, Says, Wanted, WithContacts, is_dash, outcome_of, reads_mailmap, takes_contacts}
 use Rattle.verify_command.specs.declared.asked.Mode.{Mode}
-use Rattle.verify_command.specs.declared.asked.Mode.TheVariants.{Contacts, Suggest}
+use Rattle.verify_command.specs.declared.asked.Mode.TheVariants.{Help, Version, Verify, Prune, Explain, Contacts, Suggest}
 use Rattle.verify_command.specs.declared.failure.TaskFailure.{TaskFailure}
-use Rattle.verify_command.specs.declared.failure.TaskFailure.TheVariants.{Run}
+use Rattle.verify_command.specs.declared.failure.TaskFailure.TheVariants.{Run, TooManyFiles}
 
 -- ---- what is written
 
@@ -42,14 +42,114 @@ no_mailmap _ contacts none takes dash = cc
 -- what is made from mailmaps, and from the contacts that were read after these
 pub left_with : {W : Type 0} {b : Bool} {contents : W → Option Text} {old new : W} {r : Result Outcome TaskFailure}
     (IsMade : List Text → Text → Outcome → Text → Type 0) (at : Text → AtPath) (input between : Option Text) (w : Wanted)
-    (mailmaps : List Text) (lines : Text) → takes_contacts w.mode ≡ true → (reads_mailmap w ≡ false → between ≡ input)
-    → AreMailmaps at input w mailmaps → AreContacts at w.contacts between lines
-    → Leaves b (IsMade mailmaps lines) contents old new r → Leaves b (WithContacts IsMade at input w) contents old new r
-left_with IsMade at input between w mailmaps lines takes unread are read l =
+    (mailmaps : List Text) → takes_contacts w.mode ≡ true → (reads_mailmap w ≡ false → between ≡ input)
+    → AreMailmaps at input w mailmaps → Leaves b (FromContacts (IsMade mailmaps) at w.contacts between) contents old new r
+    → Leaves b (WithContacts IsMade at input w) contents old new r
+left_with IsMade at input between w mailmaps takes unread are l =
     let none = no_mailmap w.mode w.contacts (has_none w.paths) takes in
-    let known : AreContacts at w.contacts input lines =
-    ((λ dash. subst (λ i. IfSome i (λ bytes. lines ≡ bytes)) (unread (none dash)) (read.0 dash)), read.1) in
-    leaves_weaker (λ o t made. (mailmaps, are, (lines, known, made))) l
+    let known : (lines : Text) → AreContacts at w.contacts between lines → AreContacts at w.contacts input lines =
+    λ lines read. ((λ dash. subst (λ i. IfSome i (λ bytes. lines ≡ bytes)) (unread (none dash)) (read.0 dash)), read.1) in
+    leaves_weaker (λ o t made. (mailmaps, are, (made.0, known made.0 made.1, made.2))) l
+
+-- ---- runs that write one text, or nothing
+
+pub known_whole : {W : Type 0} {contents : W → Option Text} {old new : W} (b : Bool) (text : Text)
+    → Appends (contents old) (contents new) text → Leaves b (IsKnown text) contents old new (Ok Clean)
+known_whole b text all =
+    record { prints = (text, (refl, refl), all); breaks_off = λ of. cc; memory = λ of. cc; silent = λ of. cc }
+
+-- a failure before anything is written
+pub left_silent : {W : Type 0} {b : Bool} {P : Outcome → Text → Type 0} {contents : W → Option Text} {old new : W}
+    (e : Failure) → ¬ (e ≡ Output) → new ≡ old → Leaves b P contents old new (Err (Run e))
+left_silent Output other same = absurd (other refl)
+left_silent Memory other same =
+    record { prints = tt; breaks_off = λ of. cc; memory = λ _. inl same; silent = λ _ _ _. same }
+left_silent (File number cause) other same =
+    record { prints = tt; breaks_off = λ of. cc; memory = λ of. cc; silent = λ _ _ _. same }
+left_silent (Input cause) other same =
+    record { prints = tt; breaks_off = λ of. cc; memory = λ of. cc; silent = λ _ _ _. same }
+
+explained_silent : {W : Type 0} {contents : W → Option Text} {old new : W} (at : Text → AtPath) (paths : List Text)
+    (unread left : Option Text) (e : Failure) → ¬ IsOfInput e → ¬ (e ≡ Output) → new ≡ old
+    → LeavesExplained at paths unread left contents old new (Err (Run e))
+explained_silent at paths unread left Output no_input other same = absurd (other refl)
+explained_silent at paths unread left (Input cause) no_input other same = absurd (no_input tt)
+explained_silent at paths unread left Memory no_input other same = record {
+  prints = tt;
+  breaks_off = λ of. cc;
+  input_fails = λ cause of. cc;
+  memory_fails = λ _. inl same;
+  silent = λ of. same;
+}
+explained_silent at paths unread left (File number cause) no_input other same = record {
+  prints = tt;
+  breaks_off = λ of. cc;
+  input_fails = λ cause of. cc;
+  memory_fails = λ of. cc;
+  silent = λ of. same;
+}
+
+left_silent_for : {W : Type 0} (contents : W → Option Text) {old new : W} (mode : Mode) (at : Text → AtPath)
+    (unread left : Option Text) (w : Wanted) (e : Failure) → (mode ≡ Explain → ¬ IsOfInput e) → ¬ (e ≡ Output)
+    → new ≡ old → LeavesFor mode at unread left w contents old new (Err (Run e))
+left_silent_for contents Explain at unread left w e no_input other same =
+    explained_silent at w.paths unread left e (no_input refl) other same
+left_silent_for contents Help at unread left w e no_input other same = left_silent e other same
+left_silent_for contents Version at unread left w e no_input other same = left_silent e other same
+left_silent_for contents Verify at unread left w e no_input other same = left_silent e other same
+left_silent_for contents Prune at unread left w e no_input other same = left_silent e other same
+left_silent_for contents Contacts at unread left w e no_input other same = left_silent e other same
+left_silent_for contents Suggest at unread left w e no_input other same = left_silent e other same
+
+input_is_mailmap : (at : Text → AtPath) (w : Wanted) (e : Failure) → FailsToRead at w e → IsOfInput e → reads_mailmap w ≡ true
+input_is_mailmap at w (Input cause) fails of = fails
+input_is_mailmap at w (File number cause) fails of = absurd of
+input_is_mailmap at w Memory fails of = absurd of
+input_is_mailmap at w Output fails of = absurd of
+
+output_reads_nothing : (at : Text → AtPath) (w : Wanted) (e : Failure) → FailsToRead at w e → ¬ (e ≡ Output)
+output_reads_nothing at w Output fails is = fails
+output_reads_nothing at w (File number cause) fails is = cc
+output_reads_nothing at w (Input cause) fails is = cc
+output_reads_nothing at w Memory fails is = cc
+
+-- the mailmaps can't be read
+pub unread_mailmaps : {W : Type 0} (contents : W → Option Text) {old new : W} (at : Text → AtPath)
+    (unread left : Option Text) (w : Wanted) (e : Failure) → FailsToRead at w e → new ≡ old
+    → LeavesFor w.mode at unread left w contents old new (Err (Run e))
+unread_mailmaps contents at unread left w e fails same =
+    let no_input : w.mode ≡ Explain → ¬ IsOfInput e = λ is of.
+    let reads : false ≡ true = subst (λ m. (can_be_mailmap m w.contacts && has_none w.paths) ≡ true) is (input_is_mailmap at w e fails of) in cc in
+    left_silent_for contents w.mode at unread left w e no_input (output_reads_nothing at w e fails) same
+
+-- memory runs out before anything is written
+pub no_memory : {W : Type 0} (contents : W → Option Text) {old new : W} (at : Text → AtPath)
+    (unread left : Option Text) (w : Wanted) → new ≡ old
+    → LeavesFor w.mode at unread left w contents old new (Err (Run Memory))
+no_memory contents at unread left w same = left_silent_for contents w.mode at unread left w Memory (λ is of. of) (λ is. cc) same
+
+-- several files are refused before anything is read
+pub too_many_left : {W : Type 0} {b : Bool} {P : Outcome → Text → Type 0} {contents : W → Option Text} {old new : W}
+    → new ≡ old → Leaves b P contents old new (Err TooManyFiles)
+too_many_left same = record { prints = tt; breaks_off = λ of. cc; memory = λ of. cc; silent = λ _ _ _. same }
+
+-- what is known of a mode
+pub in_mode : {W : Type 0} (contents : W → Option Text) (old new : W) (r : Result Outcome TaskFailure)
+    (at : Text → AtPath) (unread left : Option Text) (w : Wanted) {mode known : Mode} → mode ≡ known
+    → LeavesFor known at unread left w contents old new r → LeavesFor mode at unread left w contents old new r
+in_mode contents old new r at unread left w is l =
+    subst (λ m. LeavesFor m at unread left w contents old new r) (sym is) l
+
+-- the mode that is left
+pub only_verify : (mode : Mode) → ¬ (mode ≡ Help) → ¬ (mode ≡ Version) → ¬ (mode ≡ Prune) → ¬ (mode ≡ Explain)
+    → ¬ (mode ≡ Contacts) → ¬ (mode ≡ Suggest) → mode ≡ Verify
+only_verify Verify help version prune explain contacts suggest = refl
+only_verify Help help version prune explain contacts suggest = absurd (help refl)
+only_verify Version help version prune explain contacts suggest = absurd (version refl)
+only_verify Prune help version prune explain contacts suggest = absurd (prune refl)
+only_verify Explain help version prune explain contacts suggest = absurd (explain refl)
+only_verify Contacts help version prune explain contacts suggest = absurd (contacts refl)
+only_verify Suggest help version prune explain contacts suggest = absurd (suggest refl)
 
 -- pieces were printed, or a prefix of their text
 pub left_pieces : {W : Type 0} {contents : W → Option Text} {old new : W} (pieces : List Piece)

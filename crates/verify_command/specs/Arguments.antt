@@ -6,10 +6,10 @@ use Rattle.bstr.specs.Text.{split_at}
 use Rattle.bstr.specs.Find.{first_of, matches}
 use Rattle.mailmap_entries.specs.Folding.{Text}
 use Rattle.command_line.specs.Files.{texts}
-use Rattle.verify_command.specs.Kinds.{kind_named}
-use Rattle.verify_command.specs.Settings.{Choices, choices_of, input_name, no_choices}
-use Rattle.verify_command.specs.declared.asked.Format.{Format}
-use Rattle.verify_command.specs.declared.asked.Format.TheVariants.{Gcc, Json}
+use Rattle.mailmap_report.specs.Kinds.{kind_named}
+use Rattle.mailmap_report.specs.Settings.{Choices, choices_of, input_name, no_choices}
+use Rattle.mailmap_report.specs.declared.settings.Format.{Format}
+use Rattle.mailmap_report.specs.declared.settings.Format.TheVariants.{Gcc, Json}
 use Rattle.verify_command.specs.declared.asked.Mode.{Mode}
 use Rattle.verify_command.specs.declared.asked.Mode.TheVariants.{Help, Version, Verify, Prune, Explain, Contacts, Suggest}
 use Rattle.verify_command.specs.declared.asked.ParseError.{ParseError}
@@ -17,9 +17,9 @@ use Rattle.verify_command.specs.declared.asked.ParseError.TheVariants as error
 use Rattle.verify_command.specs.declared.asked.Request.{Request}
 use Rattle.verify_command.specs.declared.asked.Setting.{Setting}
 use Rattle.verify_command.specs.declared.asked.Setting.TheVariants as setting
-use Rattle.verify_command.specs.declared.kinds.Kind.{Kind}
-use Rattle.verify_command.specs.declared.kinds.Level.{Level}
-use Rattle.verify_command.specs.declared.kinds.Level.TheVariants.{Error, Note, Warning}
+use Rattle.mailmap_report.specs.declared.kinds.Kind.{Kind}
+use Rattle.mailmap_report.specs.declared.kinds.Level.{Level}
+use Rattle.mailmap_report.specs.declared.kinds.Level.TheVariants.{Error, Note, Warning}
 use Rattle.verify_command.specs.declared.request.Word.{Word}
 use Rattle.verify_command.specs.declared.request.Word.TheVariants as word
 

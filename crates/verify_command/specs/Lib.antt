@@ -1,7 +1,2 @@
 pub mod Arguments
-pub mod Explained
-pub mod Json
-pub mod Kinds
-pub mod Report
-pub mod Settings
 pub mod Task

@@ -1,11 +1,16 @@
 -- What each request makes `mailmap_verify` print, and how it can fail.
-use Rattle.std.specs.Prelude.{◌≡◌, ◌⊎◌, ◌<◌, ⊤, Bool, true, false, length, List, [], ◌∷◌, ◌++◌, Option, Some, None, IfErr, IfOk, IfSome, Result, codes}
+use Rattle.std.specs.Prelude.{◌≡◌, ◌⊎◌, ◌<◌, ⊤, Bool, true, false, length, List, [], ◌∷◌, ◌++◌, Option, Some, None, IfErr, IfOk, IfSome, Result, codes, if◌then◌else◌}
+use Rattle.std.specs.List.{list_any}
 use Rattle.std.specs.Result.{IsErr, IsErrOf}
 use Rattle.std.specs.declared.io.ErrorKind.{ErrorKind}
 use Rattle.mailmap_entries.specs.Folding.{Text}
+use Rattle.mailmap_contacts.specs.Comparisons.{AreContactFindings, ContactFinding}
 use Rattle.mailmap_contacts.specs.Contacts.{contacts_from, tallied}
 use Rattle.mailmap_findings.specs.Findings.{AreFindings, IsPruned, Finding, first_read_otherwise}
 use Rattle.mailmap_findings.specs.Positions.{whole_lines}
+use Rattle.mailmap_findings.specs.Remarks.{AreRemarks, Remark}
+use Rattle.mailmap_suggestions.specs.Counted.{other_git_answers}
+use Rattle.mailmap_suggestions.specs.Forms.{Histories}
 use Rattle.mailmap_suggestions.specs.Histories.{histories_of}
 use Rattle.mailmap_suggestions.specs.SuggestedText.{suggested_text, suggestion_text}
 use Rattle.mailmap_suggestions.specs.Suggestions.{Suggestion}
@@ -17,14 +22,16 @@ use Rattle.command_line.specs.Files.{AreRead, AtPath, Fails, Gives, NamesFile}
 use Rattle.command_line.specs.Printing.{Prints, PrintsFront}
 use Rattle.command_line.specs.declared.TheConstants.{VERSION}
 use Rattle.command_line.specs.declared.outcome.Outcome.{Outcome}
-use Rattle.command_line.specs.declared.outcome.Outcome.TheVariants.{Clean}
-pub use Rattle.verify_command.specs.Arguments.{Wanted, is_dash, reads_contacts, reads_mailmap, takes_contacts, wanted_of}
-use Rattle.verify_command.specs.Report.{Piece, Says, report_pieces}
-use Rattle.verify_command.specs.Explained.{ExplainsBy}
-use Rattle.verify_command.specs.Settings.{mailmap_names}
+use Rattle.command_line.specs.declared.outcome.Outcome.TheVariants.{Clean, Found}
+pub use Rattle.verify_command.specs.Arguments.{Wanted, contacts_name, is_dash, reads_contacts, reads_mailmap, takes_contacts, wanted_of}
+use Rattle.mailmap_report.specs.Explained.{Explains}
+use Rattle.mailmap_report.specs.Report.{Piece, pieces_beside, report_pieces, text_of}
+use Rattle.mailmap_report.specs.Settings.{mailmap_names}
 use Rattle.verify_command.specs.declared.failure.TaskFailure.{TaskFailure}
 use Rattle.verify_command.specs.declared.failure.TaskFailure.TheVariants.{Run, Contacts as NoContacts, TooManyFiles, ReadOtherwise}
-use Rattle.verify_command.specs.declared.asked.Mode.TheVariants.{Prune}
+use Rattle.verify_command.specs.declared.asked.Mode.{Mode}
+use Rattle.verify_command.specs.declared.asked.Mode.TheVariants.{Help, Version, Verify, Prune, Explain, Contacts, Suggest}
+use Rattle.verify_command.specs.declared.asked.TheConstants.{USAGE}
 
 -- ---- what is read
 
@@ -42,7 +49,7 @@ abbrev pub AreContacts : (Text → AtPath) → Text → Option Text → Text →
 AreContacts at contacts input text = (is_dash contacts ≡ true → IfSome input (λ bytes. text ≡ bytes))
     × (is_dash contacts ≡ false → Gives (at contacts) text)
 
--- ---- the text of each mode, with its outcome; that of `Explain` is in Explained
+-- ---- the text of each mode, with its outcome
 
 -- this text, in which nothing is found
 abbrev pub IsKnown : Text → Outcome → Text → Type 0
@@ -51,11 +58,29 @@ IsKnown known outcome text = (text ≡ known) × (outcome ≡ Clean)
 abbrev pub version_line : Text
 version_line = codes "mailmap_verify " ++ VERSION.now ++ 10 ∷ []
 
+-- `Found` if a piece counts
+abbrev pub outcome_of : List Piece → Outcome
+outcome_of pieces = if list_any (λ p. p.counts) pieces then Found else Clean
+
+-- this is the text of the pieces, and their outcome
+abbrev pub Says : Outcome → Text → List Piece → Type 0
+Says outcome text pieces = (text ≡ text_of pieces) × (outcome ≡ outcome_of pieces)
+
 -- The text has a line for each finding in the mailmaps that is reported, and nothing else, and the outcome tells
 -- whether one of them counts.
 abbrev pub IsReport : Wanted → List Text → Outcome → Text → Type 0
 IsReport w mailmaps outcome text = (findings : List Finding) × AreFindings mailmaps findings
     × Says outcome text (report_pieces w.choices (mailmap_names w.choices w.paths) findings)
+
+-- the findings about the contacts on lines, with the entries of mailmaps as this library reads them and as git does
+abbrev pub AreFoundWith : Histories → List Text → List ContactFinding → Type 0
+AreFoundWith h lines found = AreContactFindings h.ours (other_git_answers h (tallied (contacts_from 1 lines))) lines found
+
+-- The text is the report of the mailmaps with these contacts, followed by the findings about the contacts.
+abbrev pub IsReportBeside : Wanted → List Text → Text → Outcome → Text → Type 0
+IsReportBeside w mailmaps contacts outcome text = (remarks : List Remark) × (found : List ContactFinding)
+    × AreRemarks mailmaps contacts remarks × AreFoundWith (histories_of mailmaps) (whole_lines contacts) found
+    × Says outcome text (pieces_beside w.choices (mailmap_names w.choices w.paths) (contacts_name w) remarks found)
 
 -- The text is the one mailmap without its lines that have no effect; git reads each of its lines alike.
 abbrev pub IsPrunedFrom : List Text → Outcome → Text → Type 0
@@ -68,12 +93,16 @@ abbrev pub FromMailmaps : (List Text → Outcome → Text → Type 0) → (Text 
 FromMailmaps IsMade at input w outcome text =
     (mailmaps : List Text) × AreMailmaps at input w mailmaps × IsMade mailmaps outcome text
 
+-- the text is made from the contacts
+abbrev pub FromContacts : (Text → Outcome → Text → Type 0) → (Text → AtPath) → Text → Option Text → Outcome → Text → Type 0
+FromContacts IsMade at contacts input outcome text =
+    (lines : Text) × AreContacts at contacts input lines × IsMade lines outcome text
+
 -- the text is made from the mailmaps and the contacts
 abbrev pub WithContacts : (List Text → Text → Outcome → Text → Type 0) → (Text → AtPath) → Option Text → Wanted → Outcome
     → Text → Type 0
-WithContacts IsMade at input w = FromMailmaps
-    (λ mailmaps outcome text. (lines : Text) × AreContacts at w.contacts input lines × IsMade mailmaps lines outcome text)
-    at input w
+WithContacts IsMade at input w =
+    FromMailmaps (λ mailmaps. FromContacts (IsMade mailmaps) at w.contacts input) at input w
 
 -- the lines of a suggestion are no finding
 abbrev pub suggestion_piece : Suggestion → Piece
@@ -83,6 +112,10 @@ suggestion_piece s = record { text = suggestion_text s.needs_review s; counts = 
 abbrev pub AreSuggested : List Text → Text → Outcome → Text → Type 0
 AreSuggested mailmaps lines outcome text =
     (text ≡ suggested_text (histories_of mailmaps) (tallied (contacts_from 1 (whole_lines lines)))) × (outcome ≡ Clean)
+
+-- The text is made of explanations with the mailmaps in the files at these paths.
+abbrev pub ExplainsBy : (Text → AtPath) → List Text → ((Text → Text) → Text → Type 0) → Text → Type 0
+ExplainsBy at paths IsText text = (mailmaps : List Text) × AreRead at paths mailmaps × Explains paths mailmaps IsText text
 
 -- ---- failures
 
@@ -96,6 +129,11 @@ abbrev pub EndsPrinting : TaskFailure → Type 0
 EndsPrinting (Run Memory) = ⊤
 EndsPrinting (Run Output) = ⊤
 EndsPrinting _ = ⊥
+
+-- the input fails, memory runs out, or writing fails
+abbrev pub EndsAnswering : TaskFailure → Type 0
+EndsAnswering (Run (Input cause)) = ⊤
+EndsAnswering failure = EndsPrinting failure
 
 -- if the file is known to fail, this is the cause
 abbrev pub HasCause : AtPath → ErrorKind → Type 0
@@ -164,3 +202,14 @@ pub record LeavesExplained {W : Type 0} (at : Text → AtPath) (paths : List Tex
   pub memory_fails : IsErrOf result (Run Memory) → (new ≡ old)
       ⊎ Prints (ExplainsBy at paths (λ answers. AnswersRead answers unread left)) (contents old) (contents new)
   pub silent : IfErr result (λ e. IsOfMailmap e → new ≡ old)
+
+-- What a run in each mode has written. `unread` is standard input before, and `left` after.
+abbrev pub LeavesFor : {W : Type 0} → Mode → (Text → AtPath) → Option Text → Option Text → Wanted → (W → Option Text)
+    → W → W → Result Outcome TaskFailure → Type 0
+LeavesFor Help at unread left w = Leaves false (IsKnown USAGE.now)
+LeavesFor Version at unread left w = Leaves false (IsKnown version_line)
+LeavesFor Verify at unread left w = Leaves true (FromMailmaps (IsReport w) at unread w)
+LeavesFor Prune at unread left w = Leaves false (FromMailmaps IsPrunedFrom at unread w)
+LeavesFor Explain at unread left w = LeavesExplained at w.paths unread left
+LeavesFor Contacts at unread left w = Leaves true (WithContacts (IsReportBeside w) at unread w)
+LeavesFor Suggest at unread left w = Leaves true (WithContacts AreSuggested at unread w)

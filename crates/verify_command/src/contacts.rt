@@ -1,32 +1,28 @@
 //! Counts contacts, and reports on them together with mailmaps, or suggests lines for them.
-ghost use Rattle.std.specs.Prelude.{◌≡◌, IfErr, IfOk, OnOk, false, map, true};
+ghost use Rattle.std.specs.Prelude.{◌≡◌, ◌⊎◌, IfErr, IfOk, OnOk, false, map, true};
 ghost use Rattle.std.specs.Io.KnownBytes.{IsAtEnd};
 ghost use Rattle.std.specs.Slice.Iter.{iter_rest};
 ghost use Rattle.bstr.specs.Text.{lines_of};
 ghost use Rattle.mailmap_entries.specs.Folding.{Text};
-ghost use Rattle.command_line.specs.Files.{texts};
-ghost use Rattle.mailmap_contacts.specs.Answers.{finding_view};
 ghost use Rattle.mailmap_contacts.specs.Counts.{AreContactsOf};
 ghost use Rattle.mailmap_suggestions.specs.Views.{suggestion_of};
-ghost use Rattle.verify_command.specs.Report.{IsReportBeside, pieces_beside};
-ghost use Rattle.verify_command.specs.Settings.{choices_of};
-ghost use Rattle.verify_command.specs.Task.{AreContacts, AreSuggested, EndsPrinting, FailsForContacts, Leaves, is_dash};
-ghost use Rattle.verify_command.specs.Task.{suggestion_piece, wanted_of};
+ghost use Rattle.verify_command.specs.Task.{AreContacts, AreSuggested, EndsPrinting, FailsForContacts, FromContacts};
+ghost use Rattle.verify_command.specs.Task.{IsReportBeside, Leaves, is_dash, suggestion_piece, wanted_of};
 
-use crate::asked::{Request, Settings};
+use crate::asked::Request;
 use crate::failure::TaskFailure;
-use crate::notice::{contact_notice, remark_notice};
-use crate::report::{Piece, Pieces, notice_piece, print_pieces};
-use command_line::counting::count_contacts;
+use crate::report::print_pieces;
 use command_line::failure::Failure;
 use command_line::files::FileSystem;
 use command_line::outcome::Outcome;
+use contact_input::counting::count_contacts;
 use mailmap_contacts::answers::{add_to_needs, answers_to};
-use mailmap_contacts::comparisons::{ContactFinding, findings_of};
+use mailmap_contacts::comparisons::findings_of;
 use mailmap_contacts::counter::Contacts;
 use mailmap_findings::needs::Needs;
 use mailmap_findings::remarks::Remarks;
 use mailmap_findings::verify::{Mailmaps, Verification};
+use mailmap_report::pieces::{Piece, Pieces, PiecesBeside};
 use mailmap_suggestions::answers::other_git_answers;
 use mailmap_suggestions::suggestions::{Suggestion, suggest};
 use mailmap_suggestions::text::push_suggestion;
@@ -34,11 +30,49 @@ use std::alloc::{AllocError, Global};
 use std::io::{Read, Write};
 use std::slice;
 
-/// Counts the contacts of a file in parts; `-` is the input.
-///
-/// Memory grows with the distinct contacts, with the number of lines that are no contacts, and with the longest line,
-/// but not with the number of contacts.
-pub(crate) fn read_contacts<F: FileSystem, R: Read>(
+/// Reads the contacts, and prints the findings in the mailmaps in buffers and in them, and the lines that none needs.
+pub(crate) fn report_contacts<F: FileSystem, R: Read, W: Write>(
+    system: &F,
+    alloc: Global,
+    request: &Request,
+    buffers: &[&[u8]],
+    input: &mut R,
+    output: &mut W,
+) -> Result<Outcome, TaskFailure>
+    ensures leaves { Leaves true (FromContacts (IsReportBeside (wanted_of request.now) (map (λ b. b.now) buffers.now)) (F.at system.now)
+        request.now.contacts.items (R.remaining input.old)) W.contents output.old output.new result }
+    ensures reads_all { is_dash request.now.contacts.items ≡ true → OnOk result (IsAtEnd (R.remaining input.new)) }
+    ensures unread { is_dash request.now.contacts.items ≡ false → input.new ≡ input.old }
+    ensures fails { IfErr result (λ e. EndsPrinting e ⊎ FailsForContacts (F.at system.now) request.now.contacts.items e) }
+{
+    let counted = read_contacts(system, alloc, request, input)?;
+    print_report(alloc, request, buffers, &counted, output)
+}
+
+/// Reads the contacts, and prints the lines that the mailmaps in buffers lack for them.
+pub(crate) fn suggest_lines<F: FileSystem, R: Read, W: Write>(
+    system: &F,
+    alloc: Global,
+    request: &Request,
+    buffers: &[&[u8]],
+    input: &mut R,
+    output: &mut W,
+) -> Result<Outcome, TaskFailure>
+    ensures leaves { Leaves true (FromContacts (AreSuggested (map (λ b. b.now) buffers.now)) (F.at system.now)
+        request.now.contacts.items (R.remaining input.old)) W.contents output.old output.new result }
+    ensures reads_all { is_dash request.now.contacts.items ≡ true → OnOk result (IsAtEnd (R.remaining input.new)) }
+    ensures unread { is_dash request.now.contacts.items ≡ false → input.new ≡ input.old }
+    ensures fails { IfErr result (λ e. EndsPrinting e ⊎ FailsForContacts (F.at system.now) request.now.contacts.items e) }
+{
+    let counted = read_contacts(system, alloc, request, input)?;
+    print_suggestions(alloc, buffers, &counted, output)
+}
+
+// Counts the contacts of a file in parts; `-` is the input.
+//
+// Memory grows with the distinct contacts, with the number of lines that are no contacts, and with the longest line,
+// but not with the number of contacts.
+fn read_contacts<F: FileSystem, R: Read>(
     system: &F,
     alloc: Global,
     request: &Request,
@@ -65,8 +99,8 @@ pub(crate) fn read_contacts<F: FileSystem, R: Read>(
     }
 }
 
-/// Prints the findings in mailmaps and in the contacts that were counted, and the lines that no contact needs.
-pub(crate) fn print_report<W: Write>(
+// Prints the findings in mailmaps and in the contacts that were counted, and the lines that no contact needs.
+fn print_report<W: Write>(
     alloc: Global,
     request: &Request,
     buffers: &[&[u8]],
@@ -107,35 +141,8 @@ pub(crate) fn print_report<W: Write>(
     print_pieces(alloc, pieces, output)
 }
 
-// The report on mailmaps and contacts. The findings about contacts come last.
-#[derive(Drop)]
-struct PiecesBeside<'n, 'v, 'a, 'f, 'r, 'c> {
-    settings: &'n Settings,
-    names: &'n [Vec<u8>],
-    file: &'n [u8],
-    remarks: Remarks<'v, 'a>,
-    findings: slice::Iter<'f, ContactFinding<'r, 'c>>,
-}
-
-impl Pieces for PiecesBeside<'_, '_, '_, '_, '_, '_> {
-    ghost left = { λ s. pieces_beside (choices_of s.settings.now) (texts s.names.now) s.file.now s.remarks
-        (map finding_view (iter_rest s.findings)) };
-
-    fn next_piece(&mut self, alloc: Global) -> Result<Option<Piece>, AllocError> {
-        if let Some(remark) = self.remarks.next() {
-            let notice = remark_notice(alloc, self.names, &remark)?;
-            return Ok(Some(notice_piece(alloc, self.settings, &notice)?));
-        }
-        let Some(finding) = self.findings.next() else {
-            return Ok(None);
-        };
-        let notice = contact_notice(alloc, self.file, finding)?;
-        Ok(Some(notice_piece(alloc, self.settings, &notice)?))
-    }
-}
-
-/// Prints the lines that the mailmaps in buffers lack for the contacts that were counted.
-pub(crate) fn print_suggestions<W: Write>(
+// Prints the lines that the mailmaps in buffers lack for the contacts that were counted.
+fn print_suggestions<W: Write>(
     alloc: Global,
     buffers: &[&[u8]],
     counted: &Contacts,

@@ -9,7 +9,7 @@ use std::alloc::AllocError;
 use std::io::ErrorKind;
 
 /// Why a task failed.
-#[derive(Clone, Copy, Debug, PartialEq, Eq)]
+#[derive(Clone, Copy)]
 pub enum TaskFailure {
     /// A failure that other programs have, too.
     Run(Failure),

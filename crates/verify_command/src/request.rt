@@ -9,14 +9,15 @@ ghost use Rattle.verify_command.specs.Arguments.{reports, setting_named, setting
 ghost use Rattle.verify_command.specs.Arguments.{value_in, wanted_of, with_excluded, with_mode, with_paths, with_setting};
 ghost use Rattle.verify_command.specs.Arguments.{without_value, word_of};
 
-use crate::asked::{Format, Mode, ParseError, Request, Setting, Settings};
-use crate::kinds::{Kind, Level};
+use crate::asked::{Mode, ParseError, Request, Setting};
 use bstr::ByteSlice;
+use mailmap_report::kinds::{Kind, Level};
+use mailmap_report::settings::{Format, Settings};
 use std::alloc::Global;
 use std::vec::IntoIter;
 
 /// The kinds of arguments where an option can stand.
-#[derive(Clone, Copy, Debug, PartialEq, Eq)]
+#[derive(Clone, Copy)]
 pub(crate) enum Word {
     /// `--`, which ends the options.
     End,

@@ -2,15 +2,13 @@
 ghost use Rattle.std.specs.Prelude.{◌≡◌, ◌<◌, IfErr, IfOk, IsErrOf, OnOk, false, length, map, true};
 ghost use Rattle.std.specs.Io.KnownBytes.{IsAtEnd};
 ghost use Rattle.command_line.specs.Files.{texts};
-ghost use Rattle.verify_command.specs.Report.{IsReportBeside};
-ghost use Rattle.verify_command.specs.Task.{AreMailmaps, AreSuggested, EndsPrinting, FailsFor, FailsToPrune, FailsToRead};
-ghost use Rattle.verify_command.specs.Task.{IsKnown, IsOfMailmap, IsPrunedFrom, IsReport, Leaves, LeavesExplained};
-ghost use Rattle.verify_command.specs.Task.{FromMailmaps, ReadsInput, WithContacts, reads_contacts, reads_mailmap};
-ghost use Rattle.verify_command.specs.Task.{version_line, wanted_of};
+ghost use Rattle.verify_command.specs.Task.{AreMailmaps, EndsPrinting, FailsFor, FailsToPrune, FailsToRead, IsKnown};
+ghost use Rattle.verify_command.specs.Task.{IsOfMailmap, IsPrunedFrom, Leaves, LeavesFor, ReadsInput, reads_contacts};
+ghost use Rattle.verify_command.specs.Task.{reads_mailmap, version_line, wanted_of};
 
-pub use crate::asked::{Format, Mode, ParseError, Request, Setting, Settings, USAGE};
-use crate::contacts::{print_report, print_suggestions, read_contacts};
-use crate::explanation::{Explainer, explain};
+pub use crate::asked::{Mode, ParseError, Request, Setting, USAGE};
+use crate::contacts::{report_contacts, suggest_lines};
+use crate::explanation::explain_contacts;
 use crate::failure::TaskFailure;
 use crate::report::verify;
 pub use crate::request::request_of;
@@ -19,7 +17,7 @@ use command_line::failure::Failure;
 use command_line::files::{FileSystem, list_of, read_files};
 use command_line::outcome::Outcome;
 use command_line::streams::{read_input, write_all};
-use mailmap_findings::verify::{Mailmaps, first_read_otherwise, prune};
+use mailmap_findings::verify::{first_read_otherwise, prune};
 use std::alloc::{AllocError, Global};
 use std::io::{Read, Write};
 
@@ -37,22 +35,8 @@ pub fn perform<F: FileSystem, R: Read, W: Write>(
     output: &mut W,
 ) -> Result<Outcome, TaskFailure>
     // Exactly the text of the mode is written; after a failure, a prefix of it or nothing.
-    ensures usage { request.now.mode ≡ Mode.Help → Leaves false (IsKnown USAGE.now)
-        W.contents output.old output.new result }
-    ensures version { request.now.mode ≡ Mode.Version → Leaves false (IsKnown version_line)
-        W.contents output.old output.new result }
-    ensures report { request.now.mode ≡ Mode.Verify → Leaves true (FromMailmaps (IsReport (wanted_of request.now))
-        (F.at system.now) (R.remaining input.old) (wanted_of request.now)) W.contents output.old output.new result }
-    ensures pruned { request.now.mode ≡ Mode.Prune → Leaves false (FromMailmaps IsPrunedFrom
-        (F.at system.now) (R.remaining input.old) (wanted_of request.now)) W.contents output.old output.new result }
-    ensures with_contacts { request.now.mode ≡ Mode.Contacts → Leaves true
-        (WithContacts (IsReportBeside (wanted_of request.now)) (F.at system.now) (R.remaining input.old)
-        (wanted_of request.now)) W.contents output.old output.new result }
-    ensures suggested { request.now.mode ≡ Mode.Suggest → Leaves true (WithContacts AreSuggested
-        (F.at system.now) (R.remaining input.old) (wanted_of request.now)) W.contents output.old output.new result }
-    ensures explained { request.now.mode ≡ Mode.Explain → LeavesExplained (F.at system.now)
-        (texts request.now.paths.items) (R.remaining input.old) (R.remaining input.new)
-        W.contents output.old output.new result }
+    ensures leaves { LeavesFor request.now.mode (F.at system.now) (R.remaining input.old) (R.remaining input.new)
+        (wanted_of request.now) W.contents output.old output.new result }
 
     // Standard input is read to its end if it has the contacts or the mailmap, and else not at all. It isn't read
     // either if a mailmap can't be.
@@ -68,10 +52,7 @@ pub fn perform<F: FileSystem, R: Read, W: Write>(
 {
     match request.mode {
         Mode::Help => print_text(output, USAGE.as_bytes()),
-        Mode::Version => {
-            let line = version_line(alloc)?;
-            print_text(output, line.as_slice())
-        }
+        Mode::Version => print_version(alloc, output),
         Mode::Prune if 1 < request.paths.len() => Err(TaskFailure::TooManyFiles),
         _ => {
             let mailmaps = read_mailmaps(system, alloc, request, input)?;
@@ -80,19 +61,10 @@ pub fn perform<F: FileSystem, R: Read, W: Write>(
             match request.mode {
                 Mode::Prune => print_pruned(alloc, buffers, output),
                 Mode::Explain => {
-                    let mailmaps = Mailmaps::read(alloc, buffers)?;
-                    let explainer = Explainer::new(alloc, request.paths.as_slice(), &mailmaps)?;
-                    explain(alloc, explainer, input, output)?;
-                    Ok(Outcome::Clean)
+                    explain_contacts(alloc, request.paths.as_slice(), buffers, input, output)
                 }
-                Mode::Contacts => {
-                    let counted = read_contacts(system, alloc, request, input)?;
-                    print_report(alloc, request, buffers, &counted, output)
-                }
-                Mode::Suggest => {
-                    let counted = read_contacts(system, alloc, request, input)?;
-                    print_suggestions(alloc, buffers, &counted, output)
-                }
+                Mode::Contacts => report_contacts(system, alloc, request, buffers, input, output),
+                Mode::Suggest => suggest_lines(system, alloc, request, buffers, input, output),
                 _ => verify(alloc, request, buffers, output),
             }
         }
@@ -147,6 +119,14 @@ fn print_text<W: Write>(output: &mut W, text: &[u8]) -> Result<Outcome, TaskFail
 {
     write_all(output, text)?;
     Ok(Outcome::Clean)
+}
+
+fn print_version<W: Write>(alloc: Global, output: &mut W) -> Result<Outcome, TaskFailure>
+    ensures leaves { Leaves false (IsKnown version_line) W.contents output.old output.new result }
+    ensures only { IfErr result EndsPrinting }
+{
+    let line = version_line(alloc)?;
+    print_text(output, line.as_slice())
 }
 
 fn version_line(alloc: Global) -> Result<Vec<u8>, AllocError>

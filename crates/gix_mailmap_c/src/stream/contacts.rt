@@ -52,7 +52,7 @@ impl ContactQueue {
         ensures err { OnErr result (self.new ≡ self.old) }
     {
         let taken = self.stream.push(part, &mut self.answers)?;
-        Ok(taken)
+        Ok(taken.count)
     }
 
     /// Answers the last line, which no line feed ended.

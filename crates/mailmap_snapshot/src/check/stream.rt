@@ -1,18 +1,19 @@
 //! Answers contacts that arrive in parts.
-ghost use Rattle.std.specs.Prelude.{◌≡◌, ◌++◌, ◌<◌, ◌≤◌, ◌⊎◌, [], List, IfOk, IsTrue, OnErr, OnOk, length, map, take};
+ghost use Rattle.std.specs.Prelude.{◌≡◌, ◌++◌, ◌<◌, ◌≤◌, ◌⊎◌, [], List, length, map, take};
+ghost use Rattle.std.specs.Prelude.{IfOk, IsFalse, IsTrue, OnErr, OnOk};
 ghost use Rattle.mailmap_entries.specs.Entries.{Mapping};
 ghost use Rattle.mailmap_entries.specs.Folding.{Text};
 ghost use Rattle.mailmap_grammar.specs.LineParts.{AnswersFront};
 ghost use Rattle.mailmap_grammar.specs.Lines.{HoldsNo};
 ghost use Rattle.mailmap_snapshot.specs.Contacts.{answer, answers, answers_by};
 ghost use Rattle.mailmap_snapshot.specs.Streams.{AreCachedAnswers, HasTaken};
-ghost use Rattle.mailmap_snapshot.specs.declared.check.stream.Stop.TheVariants.{Enough};
 
+use crate::cache::{AnswerCache, ROW_LEN};
 use crate::check::{push_answers, snapshot_of};
 use crate::snapshot::Snapshot;
-use answer_cache::{AnswerCache, ROW_LEN, hash_of};
 use bstr::ByteSlice;
 use mailmap_grammar::contacts::{ParsedContact, contact_of};
+use mailmap_grammar::hashing::hash_of;
 use std::alloc::{AllocError, Global};
 use std::marker::Model;
 use std::mem::swap;
@@ -20,12 +21,13 @@ use std::mem::swap;
 /// `push` returns early once the text is this long, so that callers can write the answers before there are more.
 const ENOUGH: usize = 65536;
 
-// Why a push took no more of a part. Only the clause `enough` of `take_lines` reads it.
-#[derive(Clone, Copy)]
-enum Stop {
-    // The part ended, or the text is long enough.
-    Enough,
-    OutOfMemory,
+/// How much of a part a push took.
+#[derive(Clone, Copy, Debug, PartialEq, Eq)]
+pub struct Taken {
+    /// The number of bytes, from the start of the part.
+    pub count: usize,
+    /// Whether memory ran out after some lines, and so the rest of the part wasn't taken.
+    pub out_of_memory: bool,
 }
 
 /// Answers contacts that arrive in parts, as [`check`](crate::check::check()) answers all of them at once.
@@ -77,20 +79,23 @@ impl ContactStream {
     }
 
     /// Takes bytes from the start of `part`, appends the answers to all lines that end in these bytes to `text`, and
-    /// returns the number of bytes.
+    /// returns how many bytes it took.
     ///
     /// It takes the whole part, unless `text` reaches 64 KiB or memory runs out after some lines; call it again with
     /// the rest then. If it fails, it took nothing, and `text` and the stream stay as they were.
-    pub fn push(&mut self, part: &[u8], text: &mut Vec<u8>) -> Result<usize, AllocError>
-        ensures takes { IfOk result (λ taken. (taken ≤ length part.now) × (0 < length part.now → 0 < taken)) }
+    pub fn push(&mut self, part: &[u8], text: &mut Vec<u8>) -> Result<Taken, AllocError>
+        ensures takes { IfOk result (λ taken. (taken.count ≤ length part.now)
+            × (0 < length part.now → 0 < taken.count)) }
+        ensures enough { IfOk result (λ taken. IsFalse taken.out_of_memory
+            → (taken.count ≡ length part.now) ⊎ (65536 ≤ length text.new.items)) }
         ensures answers { IfOk result (λ taken. (made : Text) × (text.new.items ≡ text.old.items ++ made)
-            × AnswersFront (answers self.old.mappings) (self.old.partial ++ take taken part.now) made
+            × AnswersFront (answers self.old.mappings) (self.old.partial ++ take taken.count part.now) made
             self.new.partial) }
         ensures keeps { OnOk result ((HoldsNo 10 self.old.partial → HoldsNo 10 self.new.partial)
             × (self.new.mappings ≡ self.old.mappings)) }
         ensures err { OnErr result ((self.new ≡ self.old) × (text.new.items ≡ text.old.items)) }
     {
-        let (taken, _) = take_lines(
+        let taken = take_lines(
             &mut self.partial,
             part,
             &self.snapshot,
@@ -131,7 +136,7 @@ impl ContactStream {
     }
 }
 
-// Does what `push` does. Also returns why it took no more.
+// Does what `push` does.
 #[tactic(auto, using(crate::proofs::Streams::next))]
 fn take_lines(
     partial: &mut Vec<u8>,
@@ -139,24 +144,32 @@ fn take_lines(
     snapshot: &Snapshot,
     cache: &mut AnswerCache,
     text: &mut Vec<u8>,
-) -> Result<(usize, Stop), AllocError>
+) -> Result<Taken, AllocError>
     requires held { HoldsNo 10 partial.old.items }
     requires cached { AreCachedAnswers snapshot.now cache.old }
-    ensures ok { IfOk result (λ taken. HasTaken snapshot.now partial.old.items part.now text.old.items taken.0
+    ensures ok { IfOk result (λ taken. HasTaken snapshot.now partial.old.items part.now text.old.items taken.count
         partial.new.items text.new.items) }
-    ensures enough { IfOk result (λ taken. taken.1 ≡ Enough
-        → (taken.0 ≡ length part.now) ⊎ (65536 ≤ length text.new.items)) }
+    ensures enough { IfOk result (λ taken. IsFalse taken.out_of_memory
+        → (taken.count ≡ length part.now) ⊎ (65536 ≤ length text.new.items)) }
     ensures err { OnErr result ((partial.new.items ≡ partial.old.items) × (text.new.items ≡ text.old.items)) }
     ensures cache { AreCachedAnswers snapshot.now cache.new }
 {
-    let mut taken = take_line(partial, part, snapshot, cache, text)?;
-    while taken < part.len() && text.len() < ENOUGH {
-        match take_line(partial, &part[taken..], snapshot, cache, text) {
-            Ok(count) => taken += count,
-            Err(_) => return Ok((taken, Stop::OutOfMemory)),
+    let mut count = take_line(partial, part, snapshot, cache, text)?;
+    while count < part.len() && text.len() < ENOUGH {
+        match take_line(partial, &part[count..], snapshot, cache, text) {
+            Ok(more) => count += more,
+            Err(_) => {
+                return Ok(Taken {
+                    count,
+                    out_of_memory: true,
+                });
+            }
         }
     }
-    Ok((taken, Stop::Enough))
+    Ok(Taken {
+        count,
+        out_of_memory: false,
+    })
 }
 
 // Takes the first line of a part with its line feed, and answers it. Without a line feed, the whole part goes to the

@@ -13,11 +13,11 @@ use thiserror::Error;
 /// Why a snapshot wasn't written.
 #[derive(Debug, PartialEq, Eq, Drop, Error)]
 pub enum WriteError {
-    /// No line can hold the entry at this index of the listing, counted from 0, because parsing the line would give
+    /// No line can hold the entry at this place of the listing, counted from 0, because parsing the line would give
     /// another entry. Entries that were parsed from lines always fit, so this happens only with the constructors of
     /// [`Entry`](mailmap_entries::Entry).
-    #[error("entry {index} cannot be written")]
-    Unwritable { index: usize },
+    #[error("entry {place} cannot be written")]
+    Unwritable { place: usize },
     /// Memory ran out.
     #[error("out of memory")]
     Memory(AllocError),
@@ -42,7 +42,7 @@ impl Snapshot {
     /// parts. The space in front keeps a name that begins with `#` from making the line a comment. Equal snapshots have
     /// the same text.
     ///
-    /// `Err` has the index of the first entry that no line can hold, or says that memory ran out. It is out of memory
+    /// `Err` has the place of the first entry that no line can hold, or says that memory ran out. It is out of memory
     /// only if every entry can be written.
     ///
     /// An entry that maps the empty email to `n@y` is written as ` <n@y> <>`. One that maps it only to the name `N`
@@ -57,8 +57,8 @@ impl Snapshot {
         // whatever was merged, the listing is its own normal list, so parsing the text gives the listing again
         ensures own { IsListing self.now }
     {
-        if let Some(index) = self.first_unwritable() {
-            return Err(WriteError::Unwritable { index });
+        if let Some(place) = self.first_unwritable() {
+            return Err(WriteError::Unwritable { place });
         }
         Ok(self.write_lines(alloc)?)
     }
@@ -82,12 +82,12 @@ impl Snapshot {
         Ok(out)
     }
 
-    // The index of the first entry that no line can hold.
+    // The place of the first entry that no line can hold.
     fn first_unwritable(&self) -> Option<usize>
-        ensures index { MatchOption result (All IsWritable self.now) (IsFirstUnwritable self.now) }
+        ensures place { MatchOption result (All IsWritable self.now) (IsFirstUnwritable self.now) }
         ensures own { IsListing self.now }
     {
-        // no listing has more entries than the tables have rows, so the index can't overflow
+        // no listing has more entries than the tables have rows, so the place can't overflow
         let _rows = self.tables.view().row_count();
         self.iter().position(|entry| !is_writable(&entry))
     }

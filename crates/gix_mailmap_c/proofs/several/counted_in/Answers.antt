@@ -7,4 +7,4 @@ use Rattle.gix_mailmap_c.proofs.several.counted_in.Goals as goal
 pub returns : goal.returns
 returns c =
     let text = c.args.contacts.now in
-    c.into_contacts.ensures (whole_lines text) (subst (λ l. HasCounted l c.add_lines.new.counter) (lines-whole text) (c.in_ok-add_lines.ensures [] c.in_ok-counter.ensures))
+    c.into_contacts.ensures (whole_lines text) (subst (λ l. HasCounted l c.add_lines.new.self) (lines-whole text) (c.in_ok-add_lines.ensures [] c.in_ok-counter.ensures))

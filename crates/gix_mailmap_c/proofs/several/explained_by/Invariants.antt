@@ -1,7 +1,7 @@
 -- The text so far and the text for the remaining lines are the whole text.
 use Rattle.std.proofs.Common.{◌≡◌, ◌++◌}
 use Rattle.std.specs.List.{flat_map}
-use Rattle.verify_command.specs.Explained.{each_line, explained_line}
+use Rattle.mailmap_report.specs.Explained.{each_line, explained_line}
 use Rattle.gix_mailmap_c.proofs.several.explained_by.Given as goal
 
 abbrev pub invariant-loop-line : goal.invariant-loop-line

@@ -1,11 +1,7 @@
 use Rattle.std.proofs.Common.{◌≡◌, map, take}
-use Rattle.std.specs.List.{All, enumerate_from}
-use Rattle.mailmap_entries.specs.Prefixes.{AreBytes}
-use Rattle.mailmap_batches.specs.Batches.{folded_email_at, indexed_mapping}
+use Rattle.std.specs.List.{enumerate_from}
+use Rattle.mailmap_batches.specs.Batches.{indexed_mapping}
 use Rattle.mailmap_batches.proofs.batch.indexed.Given as goal
 
 abbrev pub invariant-loop-index : goal.invariant-loop-index
-invariant-loop-index g l = record {
-  indexed : map indexed_mapping l.batch.items ≡ enumerate_from 0 (map g.T.HasEntry.mapping (take l.index l.entries));
-  bytes : All (λ p. AreBytes (folded_email_at p)) l.batch.items;
-}
+invariant-loop-index g l = map indexed_mapping l.batch.items ≡ enumerate_from 0 (map g.T.HasEntry.mapping (take l.index l.entries))

@@ -27,7 +27,7 @@ loop-left-preserved c =
     let some : 0 < length left = omega (arith, group.some, group.within) in
     rw (take_rest left len)
     (built_step c.requires sorted len c.earliest.result c.loop-left.invariant some group.same group.other
-    c.earliest.ensures.among c.earliest.ensures.least (rw (← c.old_email.ensures) c.in_ok-put_group.ensures))
+    c.earliest.ensures.among c.earliest.ensures.least (rw c.email.ensures at c.in_ok-put_group.ensures))
 
 pub returns : goal.returns
 returns c =

@@ -20,4 +20,4 @@ put-requires-clause-accepted c =
 pub loop-entry-preserved : goal.loop-entry-preserved
 loop-entry-preserved c =
     one_put mapping_of c.args.entries.now _ _ _ _ c.entry-item.result c.loop-entry-test.true c.entry-item.is
-    c.loop-entry.invariant (rw c.old_email.ensures at c.in_ok-put.ensures.ok).put
+    c.loop-entry.invariant (rw (c.new.ensures, c.old_email.ensures) at c.in_ok-put.ensures.ok).put

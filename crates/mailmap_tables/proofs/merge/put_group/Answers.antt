@@ -11,7 +11,7 @@ loop-i-init c =
     let put = c.in_ok-index.ensures.ok in
     record {
       put = put_alike _ _ _ (alike_joined _ _ _ _ (alike_itself _)
-          (c.combined_start-count.ensures.alike c.args.email.now)) put.put;
+          (c.combined_start-count.ensures.alike c.args.email.text.now)) put.put;
       found = put.found;
     }
 
@@ -19,7 +19,7 @@ pub loop-i-preserved : goal.loop-i-preserved
 loop-i-preserved c =
     let put = c.in_ok-put_at.ensures.ok in
     record {
-      put = one_put (λ (p : IndexedEntry). with_old_email c.args.email.now (mapping_at p)) c.args.group.now _ _ _ _
+      put = one_put (λ (p : IndexedEntry). with_old_email c.args.email.text.now (mapping_at p)) c.args.group.now _ _ _ _
           (get_or c.args.group.now c.loop-i.i c.index-group-i.result) c.loop-i-test.true
           (ap (get_or c.args.group.now c.loop-i.i) c.index-group-i.is) c.loop-i.invariant.put put.put;
       found = put.found;

@@ -8,7 +8,7 @@ use Rattle.mailmap_tables.proofs.merge.put_group.Given as goal
 
 abbrev pub invariant-loop-i : goal.invariant-loop-i
 invariant-loop-i l = record {
-  put : Represent (listing l.fn.tables.groups ++ map (λ p. with_old_email l.email (mapping_at p)) (take l.i l.group))
+  put : Represent (listing l.fn.tables.groups ++ map (λ p. with_old_email l.email.text.now (mapping_at p)) (take l.i l.group))
       l.tables.groups;
-  found : IsFound folded_email (folded l.email) l.tables.groups l.index;
+  found : IsFound folded_email (folded l.email.text.now) l.tables.groups l.index;
 }

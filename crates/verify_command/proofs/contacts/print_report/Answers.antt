@@ -10,8 +10,9 @@ use Rattle.mailmap_findings.proofs.Read.{mappings_of-located_lines}
 use Rattle.mailmap_findings.proofs.WholeLines.{lines-whole}
 use Rattle.mailmap_redundancy.specs.Redundancy.{entries}
 use Rattle.mailmap_suggestions.specs.Histories.{histories_of}
-use Rattle.verify_command.specs.Report.{AreFoundWith, Says, pieces_beside}
-use Rattle.verify_command.specs.Settings.{choices_of, mailmap_names}
+use Rattle.mailmap_report.specs.Report.{pieces_beside}
+use Rattle.mailmap_report.specs.Settings.{choices_of, mailmap_names}
+use Rattle.verify_command.specs.Task.{AreFoundWith, Says}
 use Rattle.verify_command.proofs.Leaving.{leaves_weaker}
 use Rattle.verify_command.proofs.contacts.print_report.Goals as goal
 

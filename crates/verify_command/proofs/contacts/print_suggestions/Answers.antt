@@ -11,8 +11,7 @@ use Rattle.mailmap_suggestions.specs.SuggestedText.{suggestions_text}
 use Rattle.mailmap_suggestions.specs.Suggestions.{Suggestion}
 use Rattle.mailmap_suggestions.specs.Views.{suggestion_of}
 use Rattle.mailmap_suggestions.proofs.Forms.{suggestions_said}
-use Rattle.verify_command.specs.Report.{outcome_of}
-use Rattle.verify_command.specs.Task.{suggestion_piece}
+use Rattle.verify_command.specs.Task.{outcome_of, suggestion_piece}
 use Rattle.verify_command.proofs.Leaving.{leaves_weaker}
 use Rattle.verify_command.proofs.contacts.print_suggestions.Goals as goal
 

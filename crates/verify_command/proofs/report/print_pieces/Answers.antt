@@ -7,7 +7,7 @@ use Rattle.command_line.specs.Printing.{IsUnderway}
 use Rattle.command_line.specs.declared.outcome.Outcome.{Outcome}
 use Rattle.command_line.specs.declared.outcome.Outcome.TheVariants.{Found}
 use Rattle.command_line.proofs.Printed.{item-broken, item-printed, items-printed, underway-broken, underway-none, underway-whole}
-use Rattle.verify_command.specs.Report.{Piece, piece_of, text_of}
+use Rattle.mailmap_report.specs.Report.{Piece, piece_of, text_of}
 use Rattle.verify_command.proofs.Leaving.{left_pieces}
 use Rattle.verify_command.proofs.report.print_pieces.Goals as goal
 

@@ -3,7 +3,8 @@ use Rattle.std.proofs.Common.{◌≡◌, ◌++◌, if◌then◌else◌, length}
 use Rattle.std.specs.List.{list_any}
 use Rattle.command_line.specs.Printing.{IsUnderway}
 use Rattle.command_line.specs.declared.outcome.Outcome.TheVariants.{Found}
-use Rattle.verify_command.specs.Report.{outcome_of, text_of}
+use Rattle.mailmap_report.specs.Report.{text_of}
+use Rattle.verify_command.specs.Task.{outcome_of}
 use Rattle.verify_command.proofs.report.print_pieces.Given as goal
 
 abbrev pub invariant-loop-printer : goal.invariant-loop-printer

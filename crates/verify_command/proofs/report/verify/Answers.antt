@@ -1,7 +1,8 @@
 use Rattle.std.proofs.Common.{rules, ◌≡◌, List, ℕ, Bor, Vec, Global, map, subst}
 use Rattle.mailmap_findings.specs.Findings.{AreFindings}
-use Rattle.verify_command.specs.Report.{Says, report_pieces}
-use Rattle.verify_command.specs.Settings.{choices_of, mailmap_names}
+use Rattle.mailmap_report.specs.Report.{report_pieces}
+use Rattle.mailmap_report.specs.Settings.{choices_of, mailmap_names}
+use Rattle.verify_command.specs.Task.{Says}
 use Rattle.verify_command.proofs.Leaving.{leaves_weaker}
 use Rattle.verify_command.proofs.report.verify.Goals as goal
 
@@ -17,4 +18,4 @@ returns-clause-leaves g c =
       c.findings.result,
       are,
       subst (λ n. Says o t (report_pieces choices n c.findings.result)) names says,
-    )) c.print_findings.ensures.leaves
+    )) c.print_pieces.ensures.leaves

@@ -3,11 +3,11 @@ use Rattle.std.proofs.Common.{length, ◌-◌}
 use Rattle.mailmap_snapshot.specs.Streams.{AreCachedAnswers, HasTaken}
 use Rattle.mailmap_snapshot.proofs.check.stream.take_lines.Given as goal
 
-abbrev pub invariant-loop-taken : goal.invariant-loop-taken
-invariant-loop-taken l = record {
-  has_taken : HasTaken l.snapshot l.fn.partial.items l.part l.fn.text.items l.taken l.partial.items l.text.items;
+abbrev pub invariant-loop-count : goal.invariant-loop-count
+invariant-loop-count l = record {
+  has_taken : HasTaken l.snapshot l.fn.partial.items l.part l.fn.text.items l.count l.partial.items l.text.items;
   cached : AreCachedAnswers l.snapshot l.cache;
 }
 
-abbrev pub decreases-loop-taken : goal.decreases-loop-taken
-decreases-loop-taken l = length l.part - l.taken
+abbrev pub decreases-loop-count : goal.decreases-loop-count
+decreases-loop-count l = length l.part - l.count

@@ -13,8 +13,8 @@ by_position : (es : List Mapping) (r : Option ℕ)
 by_position es None all = λ k d within. all k d (omega arith) within
 by_position es (Some i) (within, unwritable, before) = record { before = before; within = within; unwritable = unwritable }
 
-pub returns-clause-index : goal.returns-clause-index
-returns-clause-index c =
+pub returns-clause-place : goal.returns-clause-place
+returns-clause-place c =
     by_position c.args.self.now c.position.result (IsFirst-from_position _ _ c.position.result (λ e. ¬ IsWritable e) IsWritable c.position.ensures.ran
     (YieldsList-from_first mapping_of (λ s. s) c.args.self.now c.iter.ensures.listing)
     (λ x q called. search rules) (λ x q called. (search rules, search rules)))

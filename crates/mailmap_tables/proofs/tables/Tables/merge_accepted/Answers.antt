@@ -12,4 +12,4 @@ pub returns-in-len1-clause-ok : goal.returns-in-len1-clause-ok
 returns-in-len1-clause-ok c =
     let one = sym c.as_slice.ensures.value ∙ one_item c.as_slice.result.now c.entry-item.result c.in-len1.len_at_least
     c.in-len1.len_below c.entry-item.is in
-    rw (one, ← c.old_email.ensures) c.in_ok-put.ensures.ok.put
+    rw (one, ← c.old_email.ensures, ← c.new.ensures) c.in_ok-put.ensures.ok.put

@@ -1,53 +1,84 @@
-use Rattle.std.proofs.Common.{◌∙◌, ap, arith, length, refl}
-use Rattle.std.specs.Int.{from_bool}
-use Rattle.std.proofs.lemmas.List.{length-map}
-use Rattle.mailmap_entries.proofs.Results.{on_err}
-use Rattle.mailmap_tables.specs.KeySearch.{placed}
-use Rattle.mailmap_tables.specs.Pool.{contents, stored_name}
-use Rattle.mailmap_tables.proofs.Edited.{edited, group_seen, lies_at, rows_same, tables-set}
-use Rattle.mailmap_tables.proofs.KeySearch.{all_placed, length-placed, map-placed}
+use Rattle.std.proofs.Common.{◌<◌, ◌≤◌, arith, length}
+use Rattle.mailmap_tables.proofs.Edited.{name_within, named_contents, named_tables, row_count_is, within}
+use Rattle.mailmap_tables.proofs.Ranges.{few_starts, names_within, row_from}
 use Rattle.mailmap_tables.proofs.tables.Tables.place_name.Goals as goal
 
-pub place_row-requires : goal.place_row-requires
-place_row-requires c = rw length-map at (c.requires.place _ (group_seen c.self.inside.emails.items c.self.invariant
-    c.self.view_is c.requires.index c.index_mut.ensures.value))
+pub index-requires : goal.index-requires
+index-requires c =
+    let t = c.self.inside in
+    omega (arith, c.requires.index, row_count_is t.pool.items t.emails.items t.names.items _ c.self.view_is, t.emails.ok.0)
+
+pub overflow_add-start : goal.overflow_add-start
+overflow_add-start c =
+    let t = c.self.inside in
+    let h = c.self.invariant in
+    let lt = within t.emails.items t.names.items h c.self.view_is c.requires.index c.index.ensures in
+    let here : c.in-Ok.at < length (row_from t.emails.items t.names.items c.args.index c.index.result.now).names =
+    rw c.in-Ok.is at (name_within t.emails.items t.names.items h c.self.view_is c.requires.index c.index.ensures
+    c.args.place c.args.row c.requires.place) in
+    omega (arith, here, names_within h.ranges c.args.index c.index.result.now lt c.index.ensures, t.names.ok.0)
+
+pub index_mut-requires : goal.index_mut-requires
+index_mut-requires c =
+    let t = c.self.inside in
+    let h = c.self.invariant in
+    let lt = within t.emails.items t.names.items h c.self.view_is c.requires.index c.index.ensures in
+    let here : c.in-Ok.at < length (row_from t.emails.items t.names.items c.args.index c.index.result.now).names =
+    rw c.in-Ok.is at (name_within t.emails.items t.names.items h c.self.view_is c.requires.index c.index.ensures
+    c.args.place c.args.row c.requires.place) in
+    omega (arith, here, names_within h.ranges c.args.index c.index.result.now lt c.index.ensures, t.names.ok.0)
 
 pub invariant_of-self : goal.invariant_of-self
-invariant_of-self c = rw (rows_same c.self.inside.emails.items c.self.invariant c.self.view_is c.requires.index
-    c.index_mut.ensures.value (record c.index_mut.result.now { names = c.place_row.new.rows })
-    (rw c.in_err-place_row.ensures.err)) c.self.invariant
+invariant_of-self c =
+    let t = c.self.inside in
+    rw c.in-Ok.is at (named_tables t.emails.items t.names.items c.self.invariant c.self.view_is c.requires.index
+    c.index.ensures c.args.place c.args.row c.requires.place c.requires.in_pool c.requires.ascending)
 
-pub returns-in_err-place_row-clause-err : goal.returns-in_err-place_row-clause-err
-returns-in_err-place_row-clause-err c =
-    let same = rows_same c.self.inside.emails.items c.self.invariant c.self.view_is c.requires.index
-    c.index_mut.ensures.value (record c.index_mut.result.now { names = c.place_row.new.rows })
-    (rw c.in_err-place_row.ensures.err) in
-    on_err _ _ (ap (contents c.self.inside.pool.items) same ∙ c.self.view_is)
+pub returns-in-Ok-clause-ok : goal.returns-in-Ok-clause-ok
+returns-in-Ok-clause-ok c =
+    let t = c.self.inside in
+    rw c.in-Ok.is (rw c.in-Ok.is at (named_contents t.emails.items t.names.items c.self.invariant c.self.view_is c.requires.index
+    c.index.ensures c.args.place c.args.row c.requires.place))
 
-pub invariant_of-self-2 : goal.invariant_of-self-2
-invariant_of-self-2 c =
-    let es = c.self.inside.emails.items in
-    let e = c.index_mut.result.now in
-    let read = c.index_mut.ensures.value in
-    let its = lies_at es c.self.invariant c.self.view_is c.requires.index read in
-    let names = c.in_ok-place_row.ensures.ok in
-    tables-set es c.self.invariant c.self.view_is c.requires.index read (record e { names = c.place_row.new.rows }) (record {
-      email_lies = its.email_lies;
-      names_lie = rw names (all_placed _ e.names.items c.args.place c.args.row its.names_lie
-          (rw (← c.self.view_is) at c.requires.in_pool));
-    }) refl c.in_ok-count.count (omega (
-      arith,
-      length-placed e.names.items c.args.place c.args.row
-          (rw length-map at (c.requires.place _ (group_seen es c.self.invariant c.self.view_is c.requires.index read))),
-      ap length names,
-      c.in_ok-count.ensures.0,
-      ap from_bool c.is_err.ensures.value,
-    )) c.in_ok-count.ensures.1
+pub overflow_add-start-in-Err : goal.overflow_add-start-in-Err
+overflow_add-start-in-Err c =
+    let t = c.self.inside in
+    let h = c.self.invariant in
+    let lt = within t.emails.items t.names.items h c.self.view_is c.requires.index c.index.ensures in
+    let here : c.in-Err.at ≤ length (row_from t.emails.items t.names.items c.args.index c.index.result.now).names =
+    rw c.in-Err.is at (name_within t.emails.items t.names.items h c.self.view_is c.requires.index c.index.ensures
+    c.args.place c.args.row c.requires.place) in
+    omega (arith, here, names_within h.ranges c.args.index c.index.result.now lt c.index.ensures, t.names.ok.0)
 
-pub returns-clause-ok : goal.returns-clause-ok
-returns-clause-ok c =
-    let e = c.index_mut.result.now in
-    edited c.self.inside.emails.items c.self.invariant c.self.view_is c.requires.index c.index_mut.ensures.value
-    (λ g. record g { names = placed g.names c.args.place (stored_name c.args.self.now.pool c.args.row) })
-    (record e { names = c.place_row.new.rows })
-    (rw (c.in_ok-place_row.ensures.ok, map-placed (stored_name c.args.self.now.pool) e.names.items))
+pub insert_name-requires-clause-at : goal.insert_name-requires-clause-at
+insert_name-requires-clause-at c =
+    let t = c.self.inside in
+    let h = c.self.invariant in
+    let lt = within t.emails.items t.names.items h c.self.view_is c.requires.index c.index.ensures in
+    let here : c.in-Err.at ≤ length (row_from t.emails.items t.names.items c.args.index c.index.result.now).names =
+    rw c.in-Err.is at (name_within t.emails.items t.names.items h c.self.view_is c.requires.index c.index.ensures
+    c.args.place c.args.row c.requires.place) in
+    omega (arith, here, names_within h.ranges c.args.index c.index.result.now lt c.index.ensures)
+
+pub insert_name-requires-clause-next : goal.insert_name-requires-clause-next
+insert_name-requires-clause-next c =
+    let t = c.self.inside in
+    omega (arith, c.requires.index, row_count_is t.pool.items t.emails.items t.names.items _ c.self.view_is)
+
+pub insert_name-requires-clause-few : goal.insert_name-requires-clause-few
+insert_name-requires-clause-few c =
+    let t = c.self.inside in few_starts c.self.invariant.ranges _ (omega (arith, t.names.ok.0))
+
+pub invariant_of-self-in-Err : goal.invariant_of-self-in-Err
+invariant_of-self-in-Err c =
+    let t = c.self.inside in
+    let ok = c.in_ok-insert_name-in-Err.ensures in
+    rw (ok.names, ok.emails) (rw c.in-Err.is at (named_tables t.emails.items t.names.items c.self.invariant c.self.view_is c.requires.index
+    c.index.ensures c.args.place c.args.row c.requires.place c.requires.in_pool c.requires.ascending))
+
+pub returns-in_ok-insert_name-in-Err-clause-ok : goal.returns-in_ok-insert_name-in-Err-clause-ok
+returns-in_ok-insert_name-in-Err-clause-ok c =
+    let t = c.self.inside in
+    let ok = c.in_ok-insert_name-in-Err.ensures in
+    rw (c.in-Err.is, ok.names, ok.emails) (rw c.in-Err.is at (named_contents t.emails.items t.names.items c.self.invariant c.self.view_is c.requires.index
+    c.index.ensures c.args.place c.args.row c.requires.place))

@@ -1,11 +1,12 @@
-use Rattle.std.proofs.Common.{◌≡◌, Some, arith, sym}
+use Rattle.std.proofs.Common.{◌≡◌, Some, arith, sym, ◌∙◌}
 use Rattle.std.specs.List.{slice_get}
+use Rattle.std.proofs.lemmas.Option.{same_Some}
 use Rattle.std.proofs.lemmas.Result.{on_ok_weaker}
 use Rattle.mailmap_entries.specs.Entries.{mapping_of}
 use Rattle.mailmap_entries.specs.Semantics.{new_fields}
 use Rattle.mailmap_tables.specs.Pool.{fields_of, group_of, stored_name}
 use Rattle.mailmap_tables.specs.Put.{name_given, spelled_name, with_old_email}
-use Rattle.mailmap_tables.proofs.PutEntry.{fields_put, given_or, name_put, entry_paired, names_ascend}
+use Rattle.mailmap_tables.proofs.PutEntry.{fields_put, given_or, name_put, entry_paired, names_ascend, names_ascend_with}
 use Rattle.mailmap_tables.proofs.RowsOfPool.{name_of_row}
 use Rattle.mailmap_tables.proofs.tables.Tables.put_at.Goals as goal
 
@@ -32,6 +33,22 @@ place_of_name-place-requires-clause-ascending c =
 
 pub append_entry-requires : goal.append_entry-requires
 append_entry-requires c = rw c.view-view.ensures at (c.name_at-old_name.ensures.within _ c.email.ensures.in_pool.names_lie)
+
+pub place_name-requires-clause-ascending : goal.place_name-requires-clause-ascending
+place_name-requires-clause-ascending c = λ h at.
+    let a = c.args.self.now in
+    let m = with_old_email c.args.email.now (mapping_of c.args.entry.now) in
+    let name = c.in-Some.old_name.now in
+    let place = rw c.view-view.ensures at c.place_of_name-place.ensures.place in
+    let g = group_of a.pool c.email.result.0 c.email.result.1.now in
+    let read : slice_get a.groups c.args.index ≡ Some g = rw c.view-view.ensures at c.email.ensures.group in
+    let row : stored_name c.append_entry.new.self.pool c.in_ok-row-2.row
+    ≡ name_given (spelled_name g.names c.place_of_name-place.result name) m =
+    rw c.name_at-old_name.ensures.text at (name_of_row _ _ (new_fields m) c.in_ok-row-2.row c.in_ok-row-2.ensures.row) in
+    let here : slice_get a.groups c.args.index ≡ Some h = rw c.append_entry.ensures.grown.1 at at in
+    let same : h ≡ g = same_Some _ _ (sym here ∙ read) in
+    rw (same, row) (names_ascend_with m c.requires.groups c.args.index c.requires.found g read name
+    c.place_of_name-place.result place)
 
 pub returns-clause-ok : goal.returns-clause-ok
 returns-clause-ok c =

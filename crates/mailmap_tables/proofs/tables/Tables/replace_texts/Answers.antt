@@ -1,24 +1,20 @@
-use Rattle.std.proofs.Common.{refl}
-use Rattle.mailmap_tables.specs.Pool.{fields_of}
-use Rattle.mailmap_tables.proofs.Edited.{edited, group_seen, lies_at, tables-set}
+use Rattle.std.proofs.Common.{arith}
+use Rattle.mailmap_tables.proofs.Edited.{row_count_is, texts_contents, texts_tables}
 use Rattle.mailmap_tables.proofs.tables.Tables.replace_texts.Goals as goal
+
+pub index_mut-requires : goal.index_mut-requires
+index_mut-requires c =
+    let t = c.self.inside in
+    omega (arith, c.requires.index, row_count_is t.pool.items t.emails.items t.names.items _ c.self.view_is, t.emails.ok.0)
 
 pub invariant_of-self : goal.invariant_of-self
 invariant_of-self c =
-    let es = c.self.inside.emails.items in
-    let e = c.index_mut.result.now in
-    let read = c.index_mut.ensures.value in
-    tables-set es c.self.invariant c.self.view_is c.requires.index read (record e { texts = c.args.texts }) (record {
-      email_lies = rw (← c.self.view_is) at c.requires.in_pool;
-      names_lie = (lies_at es c.self.invariant c.self.view_is c.requires.index read).names_lie;
-    }) (rw (← c.self.view_is) at (c.requires.same _ (group_seen es c.self.invariant c.self.view_is c.requires.index read)))
-    c.self.inside.name_count refl c.self.invariant.few
+    let t = c.self.inside in
+    texts_tables t.emails.items t.names.items c.self.invariant c.self.view_is c.requires.index c.index_mut.ensures.value
+    c.args.texts c.requires.in_pool c.requires.same
 
 pub returns : goal.returns
 returns c =
-    let es = c.self.inside.emails.items in
-    let read = c.index_mut.ensures.value in
-    edited es c.self.invariant c.self.view_is c.requires.index read
-    (λ g. record g { unnamed = fields_of c.args.self.now.pool c.args.texts })
-    (record c.index_mut.result.now { texts = c.args.texts })
-    (rw (c.requires.same _ (group_seen es c.self.invariant c.self.view_is c.requires.index read)))
+    let t = c.self.inside in
+    texts_contents t.emails.items t.names.items c.self.invariant c.self.view_is c.requires.index c.index_mut.ensures.value
+    c.args.texts c.requires.same

@@ -1,6 +1,6 @@
 use Rattle.std.proofs.Common.{◌∙◌, ◌++◌, ap, sym}
 use Rattle.std.proofs.lemmas.Result.{on_ok_weaker}
-use Rattle.verify_command.specs.Explained.{explained_line}
+use Rattle.mailmap_report.specs.Explained.{explained_line}
 use Rattle.verify_command.proofs.EachLine.{last_line}
 use Rattle.verify_command.proofs.explanation.ExplainedLinesLineAnswers.finish.Goals as goal
 

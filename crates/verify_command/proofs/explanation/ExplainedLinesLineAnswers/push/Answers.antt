@@ -2,7 +2,7 @@ use Rattle.std.proofs.Common.{◌∙◌, ◌++◌, ap, append-nil, sym}
 use Rattle.std.proofs.Math.Seq.{take-length}
 use Rattle.mailmap_findings.proofs.WholeLines.{whole_in_order}
 use Rattle.mailmap_grammar.proofs.LineParts.{ended_part, unended_part}
-use Rattle.verify_command.specs.Explained.{each_line, explained_line}
+use Rattle.mailmap_report.specs.Explained.{each_line, explained_line}
 use Rattle.verify_command.proofs.EachLine.{line_ended}
 use Rattle.verify_command.proofs.explanation.ExplainedLinesLineAnswers.push.Goals as goal
 

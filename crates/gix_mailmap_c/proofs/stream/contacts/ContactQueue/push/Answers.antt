@@ -10,7 +10,7 @@ returns-clause-ok c =
     let new = c.push.new.self in
     let more = c.in_ok-taken.ensures.answers in
     let after : Pending = record { mappings = new.mappings; partial = new.partial; unread = drop read c.push.new.text.items } in
-    subst (λ (p : Pending). HasTakenOf c.args.part.now c.in_ok-taken.taken p after) c.self.view_is (record {
+    subst (λ (p : Pending). HasTakenOf c.args.part.now c.in_ok-taken.taken.count p after) c.self.view_is (record {
       within = c.in_ok-taken.ensures.takes.0;
       some = c.in_ok-taken.ensures.takes.1;
       made = more.0;

@@ -1,0 +1,64 @@
+//! Counts the contacts of an input while it is read.
+ghost use Rattle.std.specs.Prelude.{◌≡◌, ◌++◌, ◌⊎◌, List, ℕ, IfErr, IfOk, IfSome, OnOk};
+ghost use Rattle.std.specs.Io.KnownBytes.{IsAtEnd};
+ghost use Rattle.bstr.specs.Text.{lines_of};
+ghost use Rattle.contact_counter.specs.Counts.{AreContactsOf, HasCounted};
+ghost use Rattle.command_line.specs.Failures.{IsOfInput};
+ghost use Rattle.contact_input.specs.Counted.{HasCountedRead};
+
+use bstr::ByteSlice;
+use command_line::failure::Failure;
+use command_line::streams::{PART, read_part};
+use contact_counter::counter::{ContactCounter, Contacts};
+use std::alloc::{AllocError, Global};
+use std::io::{ErrorKind, Read};
+
+/// Counts the contacts on the lines of the rest of a reader.
+///
+/// Reads in parts, so memory grows with the distinct contacts, with the number of lines that are neither blank nor
+/// contacts, and with the longest line, not with the number of contacts.
+pub fn count_contacts<R: Read>(alloc: Global, input: &mut R) -> Result<Contacts, Failure>
+    ensures counts { IfOk result (λ contacts. (text : List ℕ) × IfSome (R.remaining input.old) (λ bytes. text ≡ bytes)
+        × AreContactsOf (lines_of text) contacts) }
+    ensures end { OnOk result (IsAtEnd (R.remaining input.new)) }
+    ensures only { IfErr result (λ e. IsOfInput e ⊎ (e ≡ Failure.Memory)) }
+{
+    let mut contacts = ContactCounter::new(alloc)?;
+    let mut partial = Vec::new(alloc);
+    let mut part = [0; PART];
+    for _ in 0..u64::MAX {
+        let count = match read_part(input, &mut part) {
+            Ok(count) => count,
+            Err(cause) => return Err(Failure::Input { cause }),
+        };
+        if count == 0 {
+            contacts.add_lines(partial.as_slice())?;
+            return Ok(contacts.into_contacts()?);
+        }
+        add_part(&mut contacts, &mut partial, &part[..count])?;
+    }
+    // Not reached: no input has so many reads.
+    Err(Failure::Input {
+        cause: ErrorKind::Other,
+    })
+}
+
+// Counts the contacts on the lines that end in a part. `partial` is the start of a line that hasn't ended yet.
+fn add_part(
+    counter: &mut ContactCounter,
+    partial: &mut Vec<u8>,
+    part: &[u8],
+) -> Result<(), AllocError>
+    ensures { OnOk result ((read : List ℕ) → HasCountedRead read partial.old.items counter.old
+        → HasCountedRead (read ++ part.now) partial.new.items counter.new) }
+{
+    let Some(feed) = part.rfind_byte(b'\n') else {
+        partial.extend_from_slice(part)?;
+        return Ok(());
+    };
+    partial.extend_from_slice(&part[..feed + 1])?;
+    counter.add_lines(partial.as_slice())?;
+    partial.clear();
+    partial.extend_from_slice(&part[feed + 1..])?;
+    Ok(())
+}

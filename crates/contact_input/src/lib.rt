@@ -1,0 +1,4 @@
+//! Reads contacts and counts them. This is internal to the programs.
+#![tactic(auto)]
+
+pub mod counting;

@@ -1,0 +1,74 @@
+-- What is reported at a line, as JSON.
+use Rattle.std.specs.Prelude.{◌++◌, ℕ, Bool, true, false, [], ◌∷◌, Option, Some, None, codes}
+use Rattle.std.specs.Option.{option_map}
+use Rattle.std.specs.Str.{is_utf8}
+use Rattle.base64.specs.Engines.{standard}
+use Rattle.base64.specs.GeneralPurpose.{encode_of}
+use Rattle.serde_json.specs.Data.{Data, Members, member, no_members, number, object, string, unsigned}
+use Rattle.serde_json.specs.Written.{compact_text}
+use Rattle.mailmap_entries.specs.Folding.{Text}
+use Rattle.mailmap_report.specs.Kinds.{kind_level, kind_name, level_name}
+use Rattle.mailmap_report.specs.declared.kinds.Kind.{Kind}
+use Rattle.mailmap_report.specs.declared.notice.Notice.{Notice as the_notice}
+use Rattle.mailmap_report.specs.declared.places.Place.{Place}
+
+-- ---- notices
+
+-- a line of a file
+pub record FileLine : Type 0 where
+  pub file : Text
+  pub line : ℕ
+
+abbrev pub file_line_of : Place → FileLine
+file_line_of p = record { file = p.file.now; line = p.line }
+
+-- what is reported at a line; `other` is the other line that the message refers to
+pub record Notice : Type 0 where
+  pub kind : Kind
+  pub place : FileLine
+  pub message : Text
+  pub other : Option FileLine
+
+-- the specification's view of a notice
+abbrev pub notice_of : the_notice → Notice
+notice_of n = record {
+  kind = n.kind;
+  place = file_line_of n.place;
+  message = n.message.items;
+  other = option_map file_line_of n.other;
+}
+
+-- ---- objects
+
+abbrev pub text_key : Bool → Text
+text_key true = codes "text"
+text_key false = codes "bytes"
+
+abbrev pub text_in : Bool → Text → Text
+text_in true text = text
+text_in false text = encode_of standard text
+
+-- A text that is not UTF-8 is in Base64, so nothing of it is lost.
+abbrev pub text_data : Text → Data
+text_data text = object (member (text_key (is_utf8 text)) (string (text_in (is_utf8 text) text)) no_members)
+
+abbrev pub place_data : FileLine → Data
+place_data l =
+    object (member (codes "file") (text_data l.file) (member (codes "line") (number (unsigned l.line)) no_members))
+
+-- the members of each notice, in the order of their keys
+abbrev pub members : Notice → Members
+members n = member (codes "file") (text_data n.place.file) (member (codes "kind") (string (kind_name n.kind))
+    (member (codes "level") (string (level_name (kind_level n.kind))) (member (codes "line") (number (unsigned n.place.line))
+    (member (codes "message") (text_data n.message) no_members))))
+
+-- and the line that it refers to, if any
+abbrev pub with_other : Option FileLine → Members → Members
+with_other None ms = ms
+with_other (Some other) ms = member (codes "at") (place_data other) ms
+
+abbrev pub object_data : Notice → Data
+object_data n = object (with_other n.other (members n))
+
+abbrev pub object_line : Notice → Text
+object_line n = compact_text (object_data n) ++ 10 ∷ []

@@ -1,0 +1,82 @@
+-- The kinds of findings, with their names and levels.
+use Rattle.std.specs.Prelude.{Bool, List, [], ◌∷◌, Option, codes}
+use Rattle.std.specs.List.{find}
+use Rattle.std.specs.Str.{bytes_eq}
+use Rattle.mailmap_contacts.specs.Comparisons.{ContactFinding, git_answers, no_contact, same_email, same_name}
+use Rattle.mailmap_entries.specs.Folding.{Text}
+use Rattle.mailmap_findings.specs.Findings.{FindingKind, fault, ignored_text, git_reads, no_effect, itself_mapped}
+use Rattle.mailmap_grammar.specs.Lines.{FaultKind, no_email, missing_closing_bracket, empty_email, nothing_to_map, unclosed_second}
+use Rattle.mailmap_report.specs.declared.kinds.Kind.{Kind}
+use Rattle.mailmap_report.specs.declared.kinds.Kind.TheVariants as kind
+use Rattle.mailmap_report.specs.declared.kinds.Level.{Level}
+use Rattle.mailmap_report.specs.declared.kinds.Level.TheVariants.{Note, Warning, Error}
+
+-- ---- the kind of a finding
+
+abbrev pub fault_kind : FaultKind → Kind
+fault_kind no_email = kind.NoEmail
+fault_kind missing_closing_bracket = kind.UnclosedEmail
+fault_kind empty_email = kind.EmptyEmail
+fault_kind nothing_to_map = kind.NothingToMap
+fault_kind unclosed_second = kind.UnclosedSecondEmail
+
+abbrev pub finding_kind : FindingKind → Kind
+finding_kind (fault f) = fault_kind f.kind
+finding_kind (ignored_text text) = kind.IgnoredText
+finding_kind (git_reads reading) = kind.GitReads
+finding_kind (no_effect beside is_same) = kind.NoEffect
+finding_kind (itself_mapped c to line second) = kind.ItselfMapped
+
+abbrev pub contact_kind : ContactFinding → Kind
+contact_kind (no_contact line) = kind.NoContact
+contact_kind (same_email a p) = kind.SameEmail
+contact_kind (same_name a p) = kind.SameName
+contact_kind (git_answers a) = kind.GitAnswers
+
+-- ---- names
+
+abbrev pub kind_name : Kind → Text
+kind_name kind.NoEmail = codes "no-email"
+kind_name kind.UnclosedEmail = codes "unclosed-email"
+kind_name kind.EmptyEmail = codes "empty-email"
+kind_name kind.NothingToMap = codes "nothing-to-map"
+kind_name kind.UnclosedSecondEmail = codes "unclosed-second-email"
+kind_name kind.IgnoredText = codes "ignored-text"
+kind_name kind.GitReads = codes "git-reads"
+kind_name kind.NoEffect = codes "no-effect"
+kind_name kind.ItselfMapped = codes "itself-mapped"
+kind_name kind.Unneeded = codes "unneeded"
+kind_name kind.NoContact = codes "no-contact"
+kind_name kind.SameEmail = codes "same-email"
+kind_name kind.SameName = codes "same-name"
+kind_name kind.GitAnswers = codes "git-answers"
+
+abbrev pub same_kind : Kind → Kind → Bool
+same_kind a b = bytes_eq (kind_name a) (kind_name b)
+
+abbrev pub kinds : List Kind
+kinds = kind.NoEmail ∷ kind.UnclosedEmail ∷ kind.EmptyEmail ∷ kind.NothingToMap ∷ kind.UnclosedSecondEmail
+    ∷ kind.IgnoredText ∷ kind.GitReads ∷ kind.NoEffect ∷ kind.ItselfMapped ∷ kind.Unneeded ∷ kind.NoContact
+    ∷ kind.SameEmail ∷ kind.SameName ∷ kind.GitAnswers ∷ []
+
+-- the kind with this name
+abbrev pub kind_named : Text → Option Kind
+kind_named name = find (λ k. bytes_eq (kind_name k) name) kinds
+
+abbrev pub level_name : Level → Text
+level_name Note = codes "note"
+level_name Warning = codes "warning"
+level_name Error = codes "error"
+
+-- ---- levels
+
+-- What can't be read is an error. Two people can share a name, so that is only a note.
+abbrev pub kind_level : Kind → Level
+kind_level kind.NoEmail = Error
+kind_level kind.UnclosedEmail = Error
+kind_level kind.EmptyEmail = Error
+kind_level kind.NothingToMap = Error
+kind_level kind.UnclosedSecondEmail = Error
+kind_level kind.NoContact = Error
+kind_level kind.SameName = Note
+kind_level _ = Warning

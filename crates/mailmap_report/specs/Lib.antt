@@ -1,0 +1,5 @@
+pub mod Explained
+pub mod Json
+pub mod Kinds
+pub mod Report
+pub mod Settings

@@ -1,0 +1,212 @@
+-- The report of mailmaps and of contacts.
+use Rattle.std.specs.Prelude.{ℕ, ◌-◌, nat_lt, Bool, ◌&&◌, if◌then◌else◌, is_some, length, take, drop, ◌++◌, codes, ◌≡◌, ◌==◌, ◌||◌, true, false, List, [], ◌∷◌, Option, Some, None, decimal, map, option_to_list, slice_index_or, unwrap_or}
+use Rattle.bstr.specs.Utf8.{decoded}
+use Rattle.mailmap_entries.specs.Folding.{Text}
+use Rattle.std.specs.List.{flat_map, list_any}
+use Rattle.std.specs.Option.{option_map}
+use Rattle.mailmap_grammar.specs.Lines.{FaultKind, is_comment, no_email, missing_closing_bracket, empty_email, nothing_to_map, unclosed_second}
+use Rattle.mailmap_grammar.specs.CanonicalText.{bracketed_email, email_part, name_part}
+use Rattle.mailmap_entries.specs.Entries.{Mapping}
+use Rattle.mailmap_findings.specs.Findings.{NewContact, Finding, FindingKind, fault, ignored_text, git_reads, no_effect, itself_mapped}
+use Rattle.mailmap_findings.specs.Git.{GitReading, Nothing, Entry, Lines}
+use Rattle.mailmap_redundancy.specs.declared.located.Position.{Position}
+use Rattle.command_line.specs.Shown.{shown}
+use Rattle.mailmap_report.specs.Json.{FileLine, Notice, object_line}
+use Rattle.mailmap_report.specs.Kinds.{finding_kind, kind_level, kind_name, level_name, contact_kind}
+use Rattle.mailmap_report.specs.Settings.{Choices, counts, is_json, is_reported}
+use Rattle.mailmap_report.specs.declared.pieces.Piece.{Piece as the_piece}
+use Rattle.mailmap_contacts.specs.Contacts.{Tally}
+use Rattle.mailmap_snapshot.specs.Contacts.{contact_line}
+use Rattle.mailmap_contacts.specs.Comparisons.{ContactFinding, first_line_of, git_answers, no_contact, same_email, same_name}
+use Rattle.mailmap_findings.specs.Remarks.{Remark, found as remark_found, unneeded as remark_unneeded}
+use Rattle.mailmap_report.specs.declared.kinds.Kind.TheVariants as kind
+
+-- ---- long texts, which are cut, so that a report stays short however often they come
+
+-- a character begins so many bytes before the end of the first 256, and goes beyond them
+abbrev pub crosses : ℕ → Text → Bool
+crosses back text =
+    is_some (decoded (drop (256 - back) text)).char && nat_lt back (decoded (drop (256 - back) text)).size
+
+-- the first 256 bytes, or up to three fewer so that no character is cut
+abbrev pub front_len : Text → ℕ
+front_len text = if crosses 1 text then 255 else if crosses 2 text then 254 else if crosses 3 text then 253 else 256
+
+-- a text of more than 256 bytes is shown as its front and two dots, a shorter one whole
+unfoldable pub shortened : Text → Text
+shortened text = if nat_lt 256 (length text) then take (front_len text) text ++ codes ".." else text
+
+-- a contact with its texts shortened
+abbrev pub short_contact : Text → Text → Text
+short_contact name email = contact_line (shortened name) (shortened email)
+
+-- ---- places
+
+-- the name of a buffer in messages: its path, or without paths that of standard input
+abbrev pub file_name : List Text → ℕ → Text
+file_name [] buffer = codes "<stdin>"
+file_name (path ∷ paths) buffer = slice_index_or (path ∷ paths) buffer []
+
+abbrev pub place_at : List Text → ℕ → ℕ → FileLine
+place_at paths buffer line = record { file = file_name paths buffer; line = line }
+
+-- FILE:LINE
+abbrev pub place_text : FileLine → Text
+place_text l = l.file ++ 58 ∷ decimal l.line
+
+abbrev pub position_text : List Text → ℕ → ℕ → Text
+position_text paths buffer line = place_text (place_at paths buffer line)
+
+-- FILE:LINE, FILE:LINE
+abbrev pub positions_text : List Text → List Position → Text
+positions_text paths [] = []
+positions_text paths (p ∷ ps) =
+    position_text paths p.buffer p.line ++ flat_map (λ q. codes ", " ++ position_text paths q.buffer q.line) ps
+
+-- ---- what findings say
+
+abbrev pub fault_text : FaultKind → Text
+fault_text no_email = codes "no email in brackets"
+fault_text missing_closing_bracket = codes "the first '<' has no '>'"
+fault_text empty_email = codes "the first email is empty"
+fault_text nothing_to_map = codes "an email alone maps nothing"
+fault_text unclosed_second = codes "the second '<' has no '>'"
+
+-- NAME <EMAIL>, both shortened; an empty or missing name is left out, with the space after it
+abbrev pub contact_text : NewContact → Text
+contact_text c = short_contact (unwrap_or c.name []) c.email
+
+-- an entry as a mailmap line, with its texts shortened
+abbrev pub entry_text : Mapping → Text
+entry_text e = name_part (option_map shortened e.new_name) ++ email_part (option_map shortened e.new_email)
+    ++ name_part (option_map shortened e.old_name) ++ bracketed_email (shortened e.old_email)
+
+-- what git reads
+abbrev pub git_text : GitReading → Text
+git_text Nothing = codes "nothing here"
+git_text (Entry e) = codes "it as " ++ entry_text e
+git_text (Lines count) = codes "it as " ++ decimal count ++ codes " lines"
+
+-- `<`, `>` or `@`
+abbrev pub is_email_byte : ℕ → Bool
+is_email_byte b = b == 60 || b == 62 || b == 64
+
+-- what to do about an ignored text, unless it begins with `#` or has one of these bytes
+unfoldable pub cure_text : Text → Text
+cure_text text = if is_comment text || list_any is_email_byte text then [] else codes " (an old name needs an email after it)"
+
+-- what the line beside one without effect says
+unfoldable pub says_text : Bool → Text
+says_text true = codes " says the same"
+says_text false = codes " says something else"
+
+-- what a finding says
+abbrev pub message_text : List Text → FindingKind → Text
+message_text paths (fault f) = fault_text f.kind
+message_text paths (ignored_text text) = codes "ignored text: " ++ shortened text ++ cure_text text
+message_text paths (git_reads reading) = codes "git reads " ++ git_text reading
+message_text paths (no_effect beside is_same) =
+    codes "no effect: " ++ position_text paths beside.buffer beside.line ++ says_text is_same
+message_text paths (itself_mapped c to line second) = contact_text c ++ codes " is itself mapped, to "
+    ++ contact_text to ++ codes " by " ++ positions_text paths (line ∷ option_to_list second)
+
+-- the other line that it refers to, the first one if there are two
+abbrev pub referred_line : List Text → FindingKind → Option FileLine
+referred_line paths (no_effect beside is_same) = Some (place_at paths beside.buffer beside.line)
+referred_line paths (itself_mapped c to line second) = Some (place_at paths line.buffer line.line)
+referred_line paths _ = None
+
+-- ---- notices of findings
+
+abbrev pub finding_notice : List Text → Finding → Notice
+finding_notice paths f = record {
+  kind = finding_kind f.kind;
+  place = place_at paths f.position.buffer f.position.line;
+  message = message_text paths f.kind;
+  other = referred_line paths f.kind;
+}
+
+-- a notice, before escapes
+abbrev pub notice_text : Notice → Text
+notice_text n = place_text n.place ++ codes ": " ++ level_name (kind_level n.kind) ++ codes ": "
+    ++ n.message ++ codes " [" ++ kind_name n.kind ++ codes "]"
+
+-- a line of output with escapes
+abbrev pub shown_line : Text → Text
+shown_line text = shown text ++ 10 ∷ []
+
+-- ---- output in pieces, some of which are findings that count
+
+pub record Piece : Type 0 where
+  pub text : Text
+  pub counts : Bool
+
+-- the specification's view of a piece
+abbrev pub piece_of : the_piece → Piece
+piece_of p = record { text = p.text.items; counts = p.counts }
+
+-- the text of pieces that are printed one after another
+abbrev pub text_of : List Piece → Text
+text_of pieces = flat_map (λ p. p.text) pieces
+
+-- ---- the report
+
+-- a line or an object, as the format asks for; nothing if the kind is not reported
+abbrev pub reported_text : Choices → Notice → Text
+reported_text c n = if is_reported c n.kind then (if is_json c then object_line n else shown_line (notice_text n)) else []
+
+abbrev pub notice_piece : Choices → Notice → Piece
+notice_piece c n = record { text = reported_text c n; counts = counts c n.kind }
+
+abbrev pub finding_piece : Choices → List Text → Finding → Piece
+finding_piece c paths f = notice_piece c (finding_notice paths f)
+
+abbrev pub report_pieces : Choices → List Text → List Finding → List Piece
+report_pieces c paths findings = map (finding_piece c paths) findings
+
+abbrev pub report : Choices → List Text → List Finding → Text
+report c paths findings = text_of (report_pieces c paths findings)
+
+-- ---- findings about contacts
+
+-- an answer with its texts shortened, and how often it comes
+abbrev pub counted_contact : Tally → Text
+counted_contact a = short_contact a.contact.name a.contact.email ++ codes " (" ++ decimal a.seen.count ++ 41 ∷ []
+
+-- what a finding says, without its place, its level and its kind
+abbrev pub contact_words : ContactFinding → Text
+contact_words (no_contact line) = codes "no contact"
+contact_words (same_email a p) = counted_contact a ++ codes " has the email of " ++ counted_contact p
+contact_words (same_name a p) = counted_contact a ++ codes " has the name of " ++ counted_contact p
+contact_words (git_answers a) = codes "git answers " ++ short_contact a.contact.name a.contact.email
+
+-- the first line with the answer that another is compared with
+abbrev pub compared_line : Text → ContactFinding → Option FileLine
+compared_line file (same_email a p) = Some (record { file = file; line = p.seen.first_line })
+compared_line file (same_name a p) = Some (record { file = file; line = p.seen.first_line })
+compared_line file _ = None
+
+-- `file` is the name of the file of contacts
+abbrev pub contact_notice : Text → ContactFinding → Notice
+contact_notice file f = record {
+  kind = contact_kind f;
+  place = record { file = file; line = first_line_of f };
+  message = contact_words f;
+  other = compared_line file f;
+}
+
+-- ---- the report with contacts
+
+abbrev pub remark_notice : List Text → Remark → Notice
+remark_notice paths (remark_found f) = finding_notice paths f
+remark_notice paths (remark_unneeded p) = record {
+  kind = kind.Unneeded;
+  place = place_at paths p.buffer p.line;
+  message = codes "no contact needs it";
+  other = None;
+}
+
+-- the remarks on the mailmaps, and after them the findings about the contacts
+abbrev pub pieces_beside : Choices → List Text → Text → List Remark → List ContactFinding → List Piece
+pieces_beside c paths file remarks found =
+    map (λ r. notice_piece c (remark_notice paths r)) remarks ++ map (λ f. notice_piece c (contact_notice file f)) found

@@ -1,0 +1,147 @@
+//! The kinds and the levels of findings, and their names.
+ghost use Rattle.std.specs.Prelude.{◌≡◌, IfSome, Some};
+ghost use Rattle.mailmap_contacts.specs.Answers.{finding_view};
+ghost use Rattle.mailmap_findings.specs.Findings.{kind_of};
+ghost use Rattle.mailmap_report.specs.Kinds.{contact_kind, finding_kind, kind_level, kind_name, kind_named};
+ghost use Rattle.mailmap_report.specs.Kinds.{level_name};
+ghost use Rattle.mailmap_report.specs.declared.kinds.Kind.{Kind as TheKind};
+
+use mailmap_contacts::comparisons::{ContactFinding, Shared};
+use mailmap_findings::verify::FindingKind;
+use mailmap_grammar::lines::Error;
+
+/// How bad a finding is, from the least to the worst. Notes don't count for the exit status.
+#[derive(Clone, Copy)]
+pub enum Level {
+    Note,
+    Warning,
+    Error,
+}
+
+impl Level {
+    /// The word that a finding begins with, as in `error: no contact`.
+    pub fn name(self) -> &'static str
+        ensures { result.now ≡ level_name self }
+    {
+        match self {
+            Level::Note => "note",
+            Level::Warning => "warning",
+            Level::Error => "error",
+        }
+    }
+}
+
+/// The kinds of findings, without their details. The first five are faults of lines.
+#[derive(Clone, Copy)]
+pub enum Kind {
+    NoEmail,
+    UnclosedEmail,
+    EmptyEmail,
+    NothingToMap,
+    UnclosedSecondEmail,
+    IgnoredText,
+    GitReads,
+    NoEffect,
+    ItselfMapped,
+    /// No contact needs the line.
+    Unneeded,
+    NoContact,
+    SameEmail,
+    SameName,
+    GitAnswers,
+}
+
+const KINDS: [Kind; 14] = [
+    Kind::NoEmail,
+    Kind::UnclosedEmail,
+    Kind::EmptyEmail,
+    Kind::NothingToMap,
+    Kind::UnclosedSecondEmail,
+    Kind::IgnoredText,
+    Kind::GitReads,
+    Kind::NoEffect,
+    Kind::ItselfMapped,
+    Kind::Unneeded,
+    Kind::NoContact,
+    Kind::SameEmail,
+    Kind::SameName,
+    Kind::GitAnswers,
+];
+
+impl Kind {
+    pub fn of_finding(finding: &FindingKind<'_>) -> Kind
+        ensures { result ≡ finding_kind (kind_of finding.now) }
+    {
+        match finding {
+            FindingKind::Fault(Error::NoEmail { .. }) => Kind::NoEmail,
+            FindingKind::Fault(Error::MissingClosingBracket { .. }) => Kind::UnclosedEmail,
+            FindingKind::Fault(Error::EmptyEmail { .. }) => Kind::EmptyEmail,
+            FindingKind::Fault(Error::NothingToMap { .. }) => Kind::NothingToMap,
+            FindingKind::Fault(Error::UnclosedSecond { .. }) => Kind::UnclosedSecondEmail,
+            FindingKind::IgnoredText(_) => Kind::IgnoredText,
+            FindingKind::GitReads(_) => Kind::GitReads,
+            FindingKind::NoEffect { .. } => Kind::NoEffect,
+            FindingKind::ItselfMapped { .. } => Kind::ItselfMapped,
+        }
+    }
+
+    pub fn of_contact_finding(finding: &ContactFinding<'_, '_>) -> Kind
+        ensures { result ≡ contact_kind (finding_view finding.now) }
+    {
+        match finding {
+            ContactFinding::NoContact(_) => Kind::NoContact,
+            ContactFinding::Shares(Shared::Email, _, _) => Kind::SameEmail,
+            ContactFinding::Shares(Shared::Name, _, _) => Kind::SameName,
+            ContactFinding::GitAnswers(_) => Kind::GitAnswers,
+        }
+    }
+
+    /// The name in brackets at the end of a finding, as in `error: no contact [no-contact]`.
+    pub fn name(self) -> &'static str
+        ensures { result.now ≡ kind_name self }
+    {
+        match self {
+            Kind::NoEmail => "no-email",
+            Kind::UnclosedEmail => "unclosed-email",
+            Kind::EmptyEmail => "empty-email",
+            Kind::NothingToMap => "nothing-to-map",
+            Kind::UnclosedSecondEmail => "unclosed-second-email",
+            Kind::IgnoredText => "ignored-text",
+            Kind::GitReads => "git-reads",
+            Kind::NoEffect => "no-effect",
+            Kind::ItselfMapped => "itself-mapped",
+            Kind::Unneeded => "unneeded",
+            Kind::NoContact => "no-contact",
+            Kind::SameEmail => "same-email",
+            Kind::SameName => "same-name",
+            Kind::GitAnswers => "git-answers",
+        }
+    }
+
+    /// The kind of this name, `None` if no kind has it.
+    pub fn of_name(name: &[u8]) -> Option<Kind>
+        ensures first { result ≡ kind_named name.now }
+        ensures named { IfSome result (λ kind. kind_name kind ≡ name.now) }
+        ensures each { (kind : TheKind) → kind_name kind ≡ name.now → result ≡ Some kind }
+    {
+        KINDS
+            .iter()
+            .find(|kind| kind.name().as_bytes() == name)
+            .copied()
+    }
+
+    pub fn level(self) -> Level
+        ensures { result ≡ kind_level self }
+    {
+        match self {
+            Kind::NoEmail
+            | Kind::UnclosedEmail
+            | Kind::EmptyEmail
+            | Kind::NothingToMap
+            | Kind::UnclosedSecondEmail
+            | Kind::NoContact => Level::Error,
+            Kind::SameName => Level::Note,
+            _ => Level::Warning,
+        }
+    }
+}

@@ -1,0 +1,13 @@
+//! The words of a report: what is said about findings in mailmaps and about contacts, as lines or as JSON, and which
+//! lines are behind the answer to a contact. Programs print them, and the library for C hands them out.
+#![tactic(auto)]
+
+pub mod explanation;
+mod json;
+pub mod kinds;
+mod message;
+mod notice;
+pub mod pieces;
+pub mod places;
+pub mod settings;
+mod shortened;
