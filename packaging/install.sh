@@ -51,7 +51,8 @@ uninstall_all() {
     done
     own="$root/share/gix_mailmap"
     rm -rf "$own/python/gix_mailmap/__pycache__"
-    for folder in "$own"/python/gix_mailmap*/ "$own/python" "$own"; do
+    for folder in "$own"/python/gix_mailmap*/ "$own/python" "$own/rust/gix_mailmap/src" "$own/rust/gix_mailmap" \
+        "$own/rust" "$own"; do
         rmdir "$folder" 2> /dev/null || true
     done
 }

@@ -10,8 +10,10 @@ sum.
 """
 import os
 import re
+import shutil
 import subprocess
 import sys
+import tempfile
 import time
 from concurrent.futures import ThreadPoolExecutor, as_completed
 from pathlib import Path
@@ -21,14 +23,18 @@ COUNTS = re.compile(r"^(?:\w[\w ]*: )?(\d+) passed, (\d+) failed$", re.MULTILINE
 SKIPPED = re.compile(r"^skipped: ", re.MULTILINE)
 # printed by Python's unittest
 RAN = re.compile(r"^Ran (\d+) tests?", re.MULTILINE)
-CHECK, VERIFY, SHORTLOG, DUMP = (
-    f"crates/{name}/out/{name}" for name in ("mailmap_check", "mailmap_verify", "mailmap_shortlog", "mailmap_dump")
-)
+# the programs as they are shipped, which need no library, and the one that prints in hex
+PROGRAMS = "mailmap_check", "mailmap_verify", "mailmap_shortlog"
+CHECK, VERIFY, SHORTLOG = (f"crates/{name}/out/static/{name}" for name in PROGRAMS)
+# a library can be preloaded only into programs that are linked with others
+DYNAMIC = " ".join(f"crates/{name}/out/{name}" for name in PROGRAMS)
+DUMP = "crates/mailmap_dump/out/mailmap_dump"
 LIBRARY, CALLS = "crates/gix_mailmap_c/out/c", "crates/out_of_memory/out/out_of_memory"
 # Parts run in parallel, because most of them use one processor.
 AT_A_TIME = max(1, len(os.sched_getaffinity(0)) - 1)
 BUILD = ("proves and builds the programs, the libraries for C and the package for Python",
-         "make --no-print-directory proved lib extension")
+         "make --no-print-directory proved build lib extension")
+CROSS = "aarch64-linux-gnu-gcc"
 # What each part does, and its command, the longest first.
 PARTS = {
     "library": ("runs the tests in Rattle, without proving them", "tests/library.sh"),
@@ -43,7 +49,7 @@ PARTS = {
     "shortlog": ("compares mailmap_shortlog with a model and git", f"tests/shortlog/run.py {SHORTLOG}"),
     "failures": ("runs programs when files, streams or memory fail", f"tests/failures.sh {CHECK} {VERIFY} {SHORTLOG}"),
     "refusals": ("refuses each request for memory of the programs in turn",
-                 f"tests/refusals.py {CHECK} {VERIFY} {SHORTLOG}"),
+                 f"tests/refusals.py {DYNAMIC}"),
     "memory": ("measures the memory for hostile mailmaps", f"tests/memory.py {CHECK} {VERIFY} {SHORTLOG}"),
     "streams": ("runs programs on streamed contacts", f"tests/streams.py {CHECK} {VERIFY}"),
     "examples": ("runs the examples on the pages", f"tests/examples.py {CHECK} {VERIFY} {SHORTLOG}"),
@@ -55,6 +61,11 @@ PARTS = {
     "Python": ("tests the package for Python", f"tests/python/run.sh {LIBRARY}"),
     "Python_memory": ("refuses memory to the package for Python, and looks for leaks",
                       f"tests/python/memory.sh {LIBRARY}"),
+    "Rust": ("tests the crate for Rust", f"tests/rust/run.py {LIBRARY}/libgix_mailmap.a"),
+    "static": ("runs the programs in a folder with nothing else", f"tests/static.sh {CHECK} {VERIFY} {SHORTLOG}"),
+    **{f"aarch64_{part}": (f"tests {part} for aarch64 by an emulator", f"tests/aarch64.sh {part}")
+       for part in ("programs", "verify", "suggest", "shortlog", "libraries", "packages", "wheel")},
+    "pre_commit": ("runs the hooks for pre-commit", f"tests/pre_commit.sh {VERIFY}"),
     "installed": ("runs the programs of docs/C.md over an installed copy", "tests/c/installed.sh"),
     "shipped": ("installs a copy and the tarball, without the toolchain", "tests/ship.sh"),
     "debian": ("builds, installs and removes the Debian packages", "tests/debian.sh"),
@@ -91,7 +102,7 @@ def run_part(name):
 
 def counts_of(status, said):
     """How many of a part's tests passed, how many failed, and how many things were skipped."""
-    found = [[int(count) for count in counts] for counts in COUNTS.findall(said)] or [[int(status == 0), 0]]
+    found = [[int(count) for count in counts] for counts in COUNTS.findall(said)] or [[int(status == 0 and not SKIPPED.search(said)), 0]]
     passed, failed = map(sum, zip(*found))
     passed += sum(map(int, RAN.findall(said))) if status == 0 else 0
     return passed, max(failed, int(status != 0)), len(SKIPPED.findall(said))
@@ -101,11 +112,23 @@ def counted(passed, failed, skipped):
     return f"{passed} passed, {failed} failed" + (f", {skipped} skipped" if skipped else "")
 
 
+def builds_for_arm():
+    """Whether gcc's compiler for aarch64 is here, with a C library."""
+    with tempfile.TemporaryDirectory() as folder:
+        words = [CROSS, "-static", "-x", "c", "-", "-o", f"{folder}/program"]
+        program = b"int main(void) { return 0; }"
+        return bool(shutil.which(CROSS)) and subprocess.run(words, input=program, capture_output=True).returncode == 0
+
+
 def build():
-    """Returns whether the build succeeded. Its output is printed as it comes."""
+    """Returns whether the build succeeded, for aarch64, too, where that is possible. Its output is printed as it
+    comes."""
     print(f"== build: {BUILD[0]}", flush=True)
-    status, _, took = run(BUILD[1])
-    print(f"   build {took}", flush=True)
+    status = 0
+    for words in [BUILD[1], *[f"{BUILD[1]} ARCH=aarch64"] * builds_for_arm()]:
+        one, _, took = run(words)
+        status = max(status, one)
+        print(f"   {words} {took}", flush=True)
     return status == 0
 
 

@@ -18,7 +18,7 @@ PAGES = [TOP / "README.md", GUIDE, *sorted(TOP.glob("docs/*.md")), *sorted(TOP.g
          TOP / "python/README.md"]
 # a path of this repository in code or as the target of a link
 PATH = re.compile(
-    r"(?<![\w/.<-])((?:crates|tests|bench|debian|docs|packaging|python|include|sample|man|c)/[\w./-]*[\w/])")
+    r"(?<![\w/.<-])((?:crates|tests|bench|debian|docs|packaging|python|rust|include|sample|man|c)/[\w./-]*[\w/])")
 # a link, and the heading in the page
 LINK = re.compile(r"\]\(([^)#:]*)#?([^):]*)\)")
 # what is built, and isn't in the repository

@@ -58,7 +58,7 @@ done
 named_so() {
     refused "make with $1=$2" 2 "*** $1 has a space or one of " built -n uninstall deb "$1=$2"
 }
-for folder in DESTDIR PREFIX BINDIR INCLUDEDIR LIBDIR MANDIR PYTHONDIR DIST; do
+for folder in DESTDIR PREFIX BINDIR INCLUDEDIR LIBDIR MANDIR PYTHONDIR RUSTDIR DIST; do
     named_so "$folder" '/x/a b'
 done
 for name in '/x/a ' $'/x\ta' '~/x' /x/{'&','|',\;,'<','>','(',')','*','?','[','{','}',\',\",'`',\\,'$$','#'}; do
@@ -110,6 +110,8 @@ installed() {
     env -i PATH="$work/tools" DESTDIR="${DESTDIR-}" "$work/$name/install.sh" "$@"
 }
 installed "$work/prefix"
+"$top/tests/static.sh" "$work/prefix/bin/"{mailmap_check,mailmap_verify,mailmap_shortlog}
+"$top/tests/rust/run.py" --installed "$work/prefix"
 same 'what only its owner may read' "$(find "$work/prefix" ! -type l ! -perm -a=r)" ''
 same 'what only its owner may run' "$(find "$work/prefix/bin" -type f ! -perm -a=x)" ''
 programs_answer "$work/prefix/bin"

@@ -22,6 +22,8 @@ TOP = Path(__file__).resolve().parents[2]
 SOURCE = TOP / "python" / "gix_mailmap"
 VERSION = (TOP / "VERSION").read_text(encoding="ascii").strip()
 INFO = f"gix_mailmap-{VERSION}.dist-info"
+PROGRAMS = ("mailmap_check", "mailmap_shortlog", "mailmap_verify")
+SCRIPTS = [f"gix_mailmap-{VERSION}.data/scripts/{name}" for name in PROGRAMS]
 WHEELS = [Path(name) for name in sys.argv[1:]]
 
 
@@ -32,12 +34,15 @@ def read(name):
 
 class Wheel(unittest.TestCase):
     def test_what_is_in_it(self):
-        """One file that loads, and no source in C."""
+        """The programs, one file that loads, and no source in C."""
         names = [path.name for path in SOURCE.iterdir() if path.suffix in (".py", ".pyi")]
         wanted = {f"gix_mailmap/{name}" for name in [*names, "py.typed", "_native.abi3.so"]}
         wanted |= {f"{INFO}/{name}" for name in ("LICENSE", "METADATA", "WHEEL", "RECORD", "top_level.txt")}
+        wanted.update(SCRIPTS)
         with zipfile.ZipFile(WHEELS[0]) as wheel:
             self.assertEqual(set(wheel.namelist()), wanted)
+            modes = {wheel.getinfo(name).external_attr >> 16 & 0o777 for name in SCRIPTS}
+        self.assertEqual(modes, {0o755})
         record = csv.reader(read(f"{INFO}/RECORD").decode().splitlines())
         for name, digest, length in record:
             if not name.endswith("RECORD"):
@@ -73,6 +78,27 @@ class Wheel(unittest.TestCase):
         page = (TOP / "include" / "gix_mailmap.pc.in").read_text(encoding="ascii")
         self.assertIn("\nVersion: @VERSION@\n", page)
         self.assertEqual(gix_mailmap.__version__, VERSION)
+
+
+class Programs(unittest.TestCase):
+    """The programs in the environment that the wheel was installed into, whether or not the shell finds them."""
+    WORDS = ["-f", "json", "--stdin-name", "m", "-"]
+    FAULTY = "plain\n"
+
+    def run_words(self, *words):
+        return subprocess.run(words, input=self.FAULTY, env={"PATH": "/usr/bin"}, capture_output=True, text=True)
+
+    def test_they_run(self):
+        for name in PROGRAMS:
+            done = self.run_words(Path(sys.executable).with_name(name), "--version")
+            self.assertEqual((done.returncode, done.stderr), (0, ""))
+            self.assertIn(VERSION, done.stdout)
+
+    def test_the_module_runs_mailmap_verify(self):
+        done = self.run_words(sys.executable, "-m", "gix_mailmap", *self.WORDS)
+        by_name = self.run_words(Path(sys.executable).with_name("mailmap_verify"), *self.WORDS)
+        self.assertEqual((done.returncode, done.stdout, done.stderr), (1, by_name.stdout, ""))
+        self.assertIn("no-email", done.stdout)
 
 
 class Setup(unittest.TestCase):
