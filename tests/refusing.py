@@ -1,6 +1,6 @@
 """Runs programs in which one request for memory is refused, by a library that is preloaded (refusing.c).
 
-Memory that was freed is filled with other bytes, so that what is read of it would show.
+Freed memory is filled with other bytes, so that a read of it would show.
 """
 import os
 import subprocess
