@@ -8,8 +8,8 @@
 # make lib             the libraries for C
 # make extension       the extension module for Python, in python/gix_mailmap
 # make wheel           a wheel of the package for Python, in dist
-# make install         installs the programs and their manual pages, the libraries, their header and pkg-config file,
-#                      the package for Python and the crate for Rust, under PREFIX
+# make install         installs the programs, their manual pages and what bash completes, the libraries, their header
+#                      and pkg-config file, the package for Python, the crate for Rust, and pages, under PREFIX
 # make uninstall       removes these
 # make dist, make deb  a tarball and Debian packages, in dist, for machines without the toolchain
 # make vendor DIR=..   copies the library's crates into another repository
@@ -22,6 +22,8 @@ BINDIR ?= $(PREFIX)/bin
 INCLUDEDIR ?= $(PREFIX)/include
 LIBDIR ?= $(PREFIX)/lib
 MANDIR ?= $(PREFIX)/share/man
+DOCDIR ?= $(PREFIX)/share/doc/gix_mailmap
+COMPLETIONSDIR ?= $(PREFIX)/share/bash-completion/completions
 # the folders of the package for Python and of the crate for Rust
 PYTHONDIR ?= $(PREFIX)/share/gix_mailmap/python
 RUSTDIR ?= $(PREFIX)/share/gix_mailmap/rust
@@ -30,7 +32,8 @@ RUSTDIR ?= $(PREFIX)/share/gix_mailmap/rust
 # that is special there: `make uninstall` with DESTDIR='/x/a b' would remove /x/a.
 READ = & | ; < > ( ) * ? [ { } ' " ` \ $$ \#
 refused = $(strip $(word 2,x$(1)x) $(filter ~%,$(1)) $(foreach character,$(READ),$(findstring $(character),$(1))))
-$(foreach name,DESTDIR PREFIX BINDIR INCLUDEDIR LIBDIR MANDIR PYTHONDIR RUSTDIR DIST,$(if $(call refused,$($(name))),\
+NAMED = DESTDIR PREFIX BINDIR INCLUDEDIR LIBDIR MANDIR DOCDIR COMPLETIONSDIR PYTHONDIR RUSTDIR DIST
+$(foreach name,$(NAMED),$(if $(call refused,$($(name))),\
     $(error $(name) has a space or one of $(READ), or begins with ~: $($(name)))))
 
 # The processor that is built for. What is made for another one than x86-64 is in folders of its own.
@@ -180,9 +183,14 @@ install: build lib extension
 	mkdir -p $(DESTDIR)$(BINDIR) $(DESTDIR)$(MANDIR)/man1
 	install -C -m 755 $($(LINK)) $(DESTDIR)$(BINDIR)
 	install -C -m 644 $(PAGES) $(DESTDIR)$(MANDIR)/man1
+	mkdir -p $(DESTDIR)$(COMPLETIONSDIR) $(DESTDIR)$(DOCDIR)
+	install -C -m 644 $(COMPLETIONS) $(DESTDIR)$(COMPLETIONSDIR)
+	install -C -m 644 $(DOCUMENTS) $(DESTDIR)$(DOCDIR)
 	$(MAKE) install_lib
 
 PAGES = man/mailmap_check.1 man/mailmap_shortlog.1 man/mailmap_verify.1
+COMPLETIONS = completions/mailmap_shortlog completions/mailmap_verify
+DOCUMENTS = docs/C.md docs/RUST.md docs/VERIFY.md
 PACKAGE = python/gix_mailmap/py.typed $(wildcard python/gix_mailmap/*.py python/gix_mailmap/*.pyi)
 CRATE = rust/gix_mailmap/Cargo.toml rust/gix_mailmap/build.rs
 MODULES = $(wildcard rust/gix_mailmap/src/*.rs)
@@ -219,6 +227,8 @@ install_lib:
 uninstall:
 	rm -f $(addprefix $(DESTDIR)$(BINDIR)/,$(PROGRAMS))
 	rm -f $(addprefix $(DESTDIR)$(MANDIR)/man1/,$(notdir $(PAGES)))
+	rm -f $(addprefix $(DESTDIR)$(COMPLETIONSDIR)/,$(notdir $(COMPLETIONS)))
+	rm -f $(addprefix $(DESTDIR)$(DOCDIR)/,$(notdir $(DOCUMENTS)))
 	rm -f $(DESTDIR)$(INCLUDEDIR)/gix_mailmap.h
 	rm -f $(addprefix $(DESTDIR)$(LIBDIR)/,libgix_mailmap.a $(SHARED) $(SONAME) $(LINKED) pkgconfig/gix_mailmap.pc)
 	rm -f $(addprefix $(DESTDIR)$(PYTHONDIR)/gix_mailmap/,$(notdir $(PACKAGE) $(EXTENSION)))
@@ -227,7 +237,7 @@ uninstall:
 	rm -f $(addprefix $(DESTDIR)$(RUSTDIR)/,$(patsubst rust/%,%,$(CRATE) $(MODULES)))
 	for folder in $(PYTHONDIR)/gix_mailmap $(PYTHONDIR)/$(INFO) $(PREFIX)/share/gix_mailmap/python \
 	    $(RUSTDIR)/gix_mailmap/src $(RUSTDIR)/gix_mailmap $(PREFIX)/share/gix_mailmap/rust \
-	    $(PREFIX)/share/gix_mailmap; do \
+	    $(PREFIX)/share/gix_mailmap $(DOCDIR); do \
 	    [ ! -d $(DESTDIR)$$folder ] || rmdir --ignore-fail-on-non-empty $(DESTDIR)$$folder; done
 
 # Packages are reproducible: all files in them have the same time, and root owns them.
@@ -242,6 +252,7 @@ FILLED = sed -e 's|@VERSION@|$(VERSION)|' -e 's|@GLIBC@|$(GLIBC)|' -e 's|@PROCES
 dist: build lib extension
 	rm -rf $(DIST)/$(TARBALL)
 	$(MAKE) install DESTDIR=$(DIST)/$(TARBALL) PREFIX= BINDIR=/bin INCLUDEDIR=/include LIBDIR=/lib MANDIR=/share/man \
+	    DOCDIR=/share/doc/gix_mailmap COMPLETIONSDIR=/share/bash-completion/completions \
 	    PYTHONDIR=/share/gix_mailmap/python RUSTDIR=/share/gix_mailmap/rust
 	$(WHEEL) $(DIST)/$(TARBALL)
 	install -m 755 packaging/install.sh $(DIST)/$(TARBALL)

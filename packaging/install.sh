@@ -52,7 +52,7 @@ uninstall_all() {
     own="$root/share/gix_mailmap"
     rm -rf "$own/python/gix_mailmap/__pycache__"
     for folder in "$own"/python/gix_mailmap*/ "$own/python" "$own/rust/gix_mailmap/src" "$own/rust/gix_mailmap" \
-        "$own/rust" "$own"; do
+        "$own/rust" "$own" "$root/share/doc/gix_mailmap"; do
         rmdir "$folder" 2> /dev/null || true
     done
 }

@@ -55,6 +55,7 @@ PARTS = {
     "examples": ("runs the examples on the pages", f"tests/examples.py {CHECK} {VERIFY} {SHORTLOG}"),
     "pages": ("checks that everything that the pages name exists", "tests/pages.py"),
     "manual": ("checks the manual pages", "tests/manual.sh"),
+    "completion": ("completes words as bash does", f"tests/completion.sh {VERIFY}"),
     "layout": ("checks the layout of code, definitions and proofs", "tests/layout.sh"),
     "not_compiling": ("checks that some code doesn't compile", "tests/not_compiling/run.py"),
     "C": ("tests the libraries for C", f"tests/c/run.sh {LIBRARY}"),

@@ -58,7 +58,7 @@ done
 named_so() {
     refused "make with $1=$2" 2 "*** $1 has a space or one of " built -n uninstall deb "$1=$2"
 }
-for folder in DESTDIR PREFIX BINDIR INCLUDEDIR LIBDIR MANDIR PYTHONDIR RUSTDIR DIST; do
+for folder in DESTDIR PREFIX BINDIR INCLUDEDIR LIBDIR MANDIR DOCDIR COMPLETIONSDIR PYTHONDIR RUSTDIR DIST; do
     named_so "$folder" '/x/a b'
 done
 for name in '/x/a ' $'/x\ta' '~/x' /x/{'&','|',\;,'<','>','(',')','*','?','[','{','}',\',\",'`',\\,'$$','#'}; do
@@ -68,7 +68,7 @@ built -n uninstall DESTDIR='/x/0.1.0~rc1+b@c,d=e:f%g' > "$work/plan"
 
 # make install, twice, and make uninstall: once with all directories named, and once among files of others
 folders=(PREFIX=/srv/own BINDIR=/srv/bin INCLUDEDIR=/srv/own/headers LIBDIR=/srv/own/lib64 MANDIR=/srv/pages
-    PYTHONDIR=/srv/python)
+    DOCDIR=/srv/documents COMPLETIONSDIR=/srv/completions PYTHONDIR=/srv/python)
 root="$work/root"
 listed() { find "$1" ! -type d -printf '%P %m %T@ %s %l\n' | sort; }
 built install DESTDIR="$root" "${folders[@]}"
@@ -78,6 +78,8 @@ same 'make install, for the second time,' "$(listed "$root")" "$once"
 wanted=(libgix_mailmap.a "$so" "$so.$(interface)" "$so.$version" pkgconfig/gix_mailmap.pc)
 same 'the programs' "$(ls "$root/srv/bin" | xargs)" 'mailmap_check mailmap_shortlog mailmap_verify'
 same 'the pages' "$(ls "$root/srv/pages/man1" | xargs)" 'mailmap_check.1 mailmap_shortlog.1 mailmap_verify.1'
+same 'the documents' "$(ls "$root/srv/documents" | xargs)" 'C.md RUST.md VERIFY.md'
+same 'what bash completes' "$(ls "$root/srv/completions" | xargs)" 'mailmap_shortlog mailmap_verify'
 same 'the libraries' "$(cd "$root/srv/own/lib64" && find . ! -type d | sort)" "$(printf './%s\n' "${wanted[@]}" | sort)"
 programs_answer "$root/srv/bin"
 page_programs_answer 'make install' "$root" /srv/own/headers /srv/own/lib64 /srv/python

@@ -5,6 +5,7 @@ from __future__ import annotations
 import errno
 import os
 import sys
+import warnings
 from collections.abc import Sequence
 from pathlib import Path
 from typing import TYPE_CHECKING, Any, AnyStr, Iterable, Iterator, NoReturn, Self, Union, overload
@@ -16,6 +17,8 @@ if TYPE_CHECKING:
     from ._native import AnyText, Buffer, BytesText, StrText, Text, of_contacts, of_mailmap, of_mailmaps, of_named
 else:
     of_contacts = of_mailmap = of_mailmaps = of_named = lambda function: function
+
+LONGEST_PATH = 4096
 
 
 class Mailmap(_native.Mailmap[AnyStr], Sequence[Entry[AnyStr]]):
@@ -45,24 +48,42 @@ class Mailmap(_native.Mailmap[AnyStr], Sequence[Entry[AnyStr]]):
     @overload
     def __init__(self: Mailmap[str], *texts: StrText) -> None: ...
     def __init__(self, *texts: Any) -> None:
-        """Opens the mailmaps `texts`, one after the other. Raises OutOfMemory."""
+        """Opens the mailmaps `texts`, one after the other. Warns of a text that names a file. Raises OutOfMemory."""
+        for text in filter(_names_file, texts):
+            warnings.warn(f"{text!r} is read as a mailmap of one line; from_path opens a file", stacklevel=2)
         super().__init__(*texts)
 
     @classmethod
-    def from_path(cls: type[Mailmap[str]], path: Union[str, os.PathLike[str]]) -> Mailmap[str]:
+    def from_path(cls, path: Union[str, os.PathLike[str]]) -> Mailmap[str]:
         """Opens the mailmap in a file, as `str`. Raises OSError and OutOfMemory."""
+        of_str: type[Mailmap[str]] = cls  # type: ignore[assignment]
         with open(path, encoding="utf-8", errors="surrogateescape", newline="") as file:
-            return cls(file)
+            return of_str(file)
 
     @classmethod
-    def of_repository(cls: type[Mailmap[str]], path: Union[str, os.PathLike[str]] = ".") -> Mailmap[str]:
+    def of_repository(cls, path: Union[str, os.PathLike[str]] = ".") -> Mailmap[str]:
         """Opens the file `.mailmap` at the top of the git work tree that a path is in. Without this file, or if it is a
-        symbolic link, which git doesn't follow either, the mailmap is empty. Raises OSError, FileNotFoundError if the
-        path is in no work tree, and OutOfMemory."""
+        symbolic link, which git doesn't follow either, the mailmap is empty. This is all that is read: git's settings
+        `mailmap.file` and `mailmap.blob`, and the mailmap in a bare repository, are not. Raises OSError,
+        FileNotFoundError if the path is in no work tree, and OutOfMemory."""
+        of_str: type[Mailmap[str]] = cls  # type: ignore[assignment]
         for found in (parent / ".mailmap" for parent in (Path(path).resolve() / ".git").parents):
             if found.with_name(".git").exists():
-                return cls.from_path(found) if found.exists() and not found.is_symlink() else cls("")
+                return of_str.from_path(found) if found.exists() and not found.is_symlink() else of_str("")
         raise FileNotFoundError(errno.ENOENT, "not in a git work tree", str(path))
+
+    @overload
+    def map_contact(self, contact: str) -> str: ...
+    @overload
+    def map_contact(self, contact: Buffer) -> bytes: ...
+    def map_contact(self, contact: Any) -> Any:
+        """Maps one contact, such as `Jane <jane@x>`. What isn't a contact is returned as it is. Raises NotALine.
+
+        >>> with Mailmap("Jane Doe <jane@x> <jd@y>") as mailmap:
+        ...     mailmap.map_contact("jd <JD@y>")
+        'Jane Doe <jane@x>'
+        """
+        return self._of_trimmed(next(_native.Stream(Mailmap(), [contact])))
 
     @overload
     def map_contacts(self, lines: Iterable[str]) -> Iterator[str]: ...
@@ -104,6 +125,9 @@ class Mailmap(_native.Mailmap[AnyStr], Sequence[Entry[AnyStr]]):
     def index(self, entry: Any, start: int = 0, stop: int = sys.maxsize) -> int:
         """The index of an entry. Raises ValueError if there is none."""
         return self.entries().index(entry, start, stop)
+
+    def __repr__(self) -> str:
+        return f"<{type(self).__name__}: {'closed' if self.closed else f'{len(self)} entries'}>"
 
     def __reduce__(self) -> NoReturn:
         raise TypeError("a Mailmap can't be copied or pickled: make a new one of its write()")
@@ -212,6 +236,14 @@ def suggest(mailmaps: Iterable[tuple[Any, Any]], contacts: Any) -> Union[str, by
     <BLANKLINE>
     """
     return _native.suggest(contacts, *_named(mailmaps))
+
+
+def _names_file(text: Any) -> bool:
+    """Whether a text is one line without an email, and the path of a file."""
+    if not isinstance(text, (str, bytes)) or len(text) > LONGEST_PATH:
+        return False
+    path = os.fsdecode(text)
+    return not {"<", "\n"} & set(path) and os.path.isfile(path)
 
 
 def _named(mailmaps: Iterable[tuple[Any, Any]]) -> list[Any]:

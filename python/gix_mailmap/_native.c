@@ -338,6 +338,14 @@ static int mailmap_init(PyObject *self, PyObject *texts, PyObject *Py_UNUSED(key
     return is_complete ? 0 : -1;
 }
 
+/* Why texts make no entry. */
+static const char *why_no_entry(const Text texts[4])
+{
+    return texts[3].owner == NULL ? "an entry has an old email"
+        : texts[0].len + texts[1].len == 0 ? "an entry has a new name or a new email"
+        : "an entry with an old name has a new email";
+}
+
 static PyObject *mailmap_add_entry(PyObject *self, PyObject *entry)
 {
     Mailmap *mailmap = (Mailmap *)self;
@@ -349,11 +357,17 @@ static PyObject *mailmap_add_entry(PyObject *self, PyObject *entry)
         PyErr_Format(PyExc_TypeError, "expected an Entry, not %R", (PyObject *)Py_TYPE(entry));
     for (Py_ssize_t i = 0; is_complete && i < 4; i++) {
         PyObject *item = PyTuple_GetItem(entry, i);
-        if (item != Py_None || i == 3)
+        if (item != Py_None)
             is_complete = get_text(item, &t[i]) && is_kind(mailmap->is_str, &t[i]);
     }
-    is_complete = is_complete && is_open(mailmap) && is_ok(gix_mailmap_add_entry(
-        mailmap->map, t[0].at, t[0].len, t[1].at, t[1].len, t[2].at, t[2].len, t[3].at, t[3].len));
+    is_complete = is_complete && is_open(mailmap);
+    gix_mailmap_status status = GIX_MAILMAP_NOT_AN_ENTRY;
+    if (is_complete && t[3].owner != NULL)
+        status = gix_mailmap_add_entry(mailmap->map, t[0].at, t[0].len, t[1].at, t[1].len, t[2].at, t[2].len, t[3].at,
+                                       t[3].len);
+    if (is_complete && status == GIX_MAILMAP_NOT_AN_ENTRY)
+        raise_error(NOT_AN_ENTRY, why_no_entry(t));
+    is_complete = is_complete && status != GIX_MAILMAP_NOT_AN_ENTRY && is_ok(status);
     release(t, 4);
     mailmap->changes += is_complete;
     return is_complete ? Py_NewRef(Py_None) : NULL;

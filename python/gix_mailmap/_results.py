@@ -18,12 +18,17 @@ class Answer(NamedTuple, Generic[AnyStr]):
 
 class Entry(NamedTuple, Generic[AnyStr]):
     """An entry of a mailmap: the new name, the new email or both for contacts with this old email, and with this old
-    name if there is one. What the entry doesn't have is None."""
+    name if there is one. What the entry doesn't have is None. Each entry has an old email.
 
-    new_name: Optional[AnyStr]
-    new_email: Optional[AnyStr]
-    old_name: Optional[AnyStr]
-    old_email: AnyStr
+    >>> Entry(new_name="Jane Doe", old_email="jd@y")
+    Entry(new_name='Jane Doe', new_email=None, old_name=None, old_email='jd@y')
+    """
+
+    new_name: Optional[AnyStr] = None
+    new_email: Optional[AnyStr] = None
+    old_name: Optional[AnyStr] = None
+    # Fields with a default come last, so this has one, which no mailmap takes.
+    old_email: AnyStr = None  # type: ignore[assignment]
 
 
 class Kind(IntEnum):

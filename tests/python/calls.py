@@ -8,7 +8,7 @@ import unittest
 from pathlib import Path
 
 import gix_mailmap
-from gix_mailmap import Answer, Closed, Entry, Finding, Kind, Mailmap, NotAnEntry, Position, Unwritable
+from gix_mailmap import Answer, Closed, Entry, Finding, Kind, Mailmap, NotALine, NotAnEntry, Position, Unwritable
 
 MAP = b"Jane Doe <jane@x> <jd@y>\nJoe <joe@x>\n"
 JANE = Entry(b"Jane Doe", b"jane@x", None, b"jd@y")
@@ -310,14 +310,49 @@ class Handles(unittest.TestCase):
             mailmap.add(b"J <jd@y>")
             self.assertEqual(mailmap.lookup(b"jd", b"jd@y").name, b"J")
 
+    def test_map_contact(self):
+        """The answers of map_contacts, for entries that lines can hold and that they can't."""
+        contacts = [b"jd <JD@y>", b" jd\t<jd@y > x\r", b"al <al@x>", b"<joe@x>", b"plain\r", b"", b"a <b", b"a\n"]
+        with Mailmap(MAP) as mailmap:
+            for _ in range(2):
+                answers = list(mailmap.map_contacts(contacts))
+                self.assertEqual([mailmap.map_contact(contact) for contact in contacts], answers)
+                mailmap.add_entry(Entry(b"<", None, None, b"a\n"))
+            self.assertEqual(mailmap.map_contact("jd <JD@y>"), "Jane Doe <jane@x>")
+            with self.assertRaises(NotALine):
+                mailmap.map_contact("jd\n <jd@y>")
+
+    def test_a_path_is_no_text(self):
+        with tempfile.TemporaryDirectory() as folder:
+            path = Path(folder, "mailmap")
+            path.write_bytes(MAP)
+            for text in (str(path), bytes(path)):
+                with self.assertWarnsRegex(UserWarning, "from_path opens a file"):
+                    Mailmap(text)
+            for text in ("", str(path) + "\n", f"<{path}>", str(path) + "?", "\0", "\udc80", b"x" * 10_000):
+                Mailmap(text)
+
+    def test_repr(self):
+        mailmap = Mailmap(MAP)
+        self.assertEqual(repr(mailmap), "<Mailmap: 2 entries>")
+        mailmap.close()
+        self.assertEqual(repr(mailmap), "<Mailmap: closed>")
+
     def test_add_entry(self):
         with Mailmap(MAP) as mailmap:
             mailmap.add_entry(Entry(b"J", None, None, b"JOE@x"))
             mailmap.add_entry(Entry(b"", b"b@x", b"Bo", b"b@y"))
             self.assertEqual(mailmap.lookup(b"Bo", b"b@y"), Answer(b"Bo", b"b@x", False, True))
             self.assertEqual(mailmap.lookup(b"joe", b"joe@x").name, b"J")
-            for fields in ((None, None, None, b"a"), (b"", b"", b"a", b"a"), (b"A", None, b"a", b"a")):
-                with self.assertRaises(NotAnEntry):
+            mailmap.add_entry(Entry(old_email=b"jd@y", new_name=b"JD"))
+            self.assertEqual(mailmap.lookup(b"jd", b"jd@y"), Answer(b"JD", b"jane@x", True, True))
+            for fields, why in (
+                ((None, None, None, b"a"), "an entry has a new name or a new email"),
+                ((b"", b"", b"a", b"a"), "an entry has a new name or a new email"),
+                ((b"A", None, b"a", b"a"), "an entry with an old name has a new email"),
+                ((b"A",), "an entry has an old email"),
+            ):
+                with self.assertRaisesRegex(NotAnEntry, f"^{why}$"):
                     mailmap.add_entry(Entry(*fields))
             for wrong in (tuple(JOE), list(JOE), None):
                 with self.assertRaisesRegex(TypeError, "expected an Entry"):

@@ -35,11 +35,20 @@ with Mailmap("") as of_str, Mailmap(b"", buffer, memoryview(buffer)) as of_bytes
     assert_type(of_str.map_contacts([b""]), Iterator[bytes])
     assert_type(of_bytes.map_contacts(iter([""])), Iterator[str])
 
+    assert_type(of_bytes.map_contact(""), str)
+    assert_type(of_str.map_contact(buffer), bytes)
+    with Mailmap.of_repository() as of_repository, Mailmap.from_path(".mailmap") as from_path:
+        assert_type(of_repository, Mailmap[str])
+        assert_type(from_path, Mailmap[str])
+        for contact in of_repository.map_contacts([b""]):
+            assert_type(contact, bytes)
+
     of_bytes.add(buffer)
     of_str.add("")
     of_bytes.add("")  # type: ignore[arg-type]
     of_str.add(b"")  # type: ignore[arg-type]
     of_str.add_entry(Entry("N", None, None, "a@x"))
+    of_str.add_entry(Entry(new_name="N", old_email="a@x"))
     of_str.add_entry(Entry(b"N", None, None, b"a@x"))  # type: ignore[arg-type]
     of_str.lookup("", b"")  # type: ignore[call-overload]
     gix_mailmap.check("", b"")  # type: ignore[call-overload]
