@@ -1,23 +1,18 @@
 //! Groups in a sorted batch: the entries for one email, which are neighbours.
 ghost use Rattle.std.specs.Prelude.{◌≢◌, ◌<◌, ◌≤◌, All, Contains, IsTrue, ◌↔◌, ◌≡◌, length, slice_index_or, take};
-ghost use Rattle.mailmap_entries.specs.Folding.{folded};
 ghost use Rattle.mailmap_batches.specs.Batches.{folded_email_at};
 ghost use Rattle.mailmap_batches.specs.declared.indexed.IndexedEntry.{IndexedEntry as SpecEntry};
 
 use crate::indexed::IndexedEntry;
+use mailmap_entries::fold::prefix::compare_after_prefix;
 
-// Whether two texts differ at most in the case of ASCII letters. Most are spelled the same, so that is tried first.
-fn differ_only_in_case(a: &[u8], b: &[u8]) -> bool
-    ensures { IsTrue result ↔ (folded a.now ≡ folded b.now) }
-{
-    a == b || a.eq_ignore_ascii_case(b)
-}
-
-// Whether the old emails of two entries are equal. Those of most neighbours differ in their prefixes.
+// Whether the old emails of two entries are equal. Those of most neighbours differ in their prefixes, and most of the
+// others are spelled the same.
 fn have_same_email(a: IndexedEntry<'_, '_>, b: IndexedEntry<'_, '_>) -> bool
     ensures { IsTrue result ↔ (folded_email_at a.entry ≡ folded_email_at b.entry) }
 {
-    a.prefix == b.prefix && differ_only_in_case(a.entry.old_email(), b.entry.old_email())
+    let (email, other) = (a.entry.old_email(), b.entry.old_email());
+    a.prefix == b.prefix && (email == other || compare_after_prefix(email, other).is_eq())
 }
 
 /// The number of entries at the start with the old email of the first entry.

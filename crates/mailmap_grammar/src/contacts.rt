@@ -57,16 +57,28 @@ pub fn parse_name_and_email(text: &[u8]) -> ParsedContact<'_>
 
 /// The text without the Unicode white space at its ends. Bytes that aren't valid UTF-8 stay.
 #[inline]
-#[tactic(auto, unfolding(crate::specs::Trimming::trim))]
 pub fn trim(text: &[u8]) -> &[u8]
     ensures { result.now ≡ spec_trim text.now }
 {
-    // Past the white space of ASCII, the first and the last byte of most texts already show that none is left.
+    // The first and the last byte of most texts show that there is nothing to trim, or that nothing is left past the
+    // white space of ASCII.
+    if is_plain(text) {
+        return text;
+    }
     let inner = trim_end_blanks(trim_start_blanks(text));
     if is_plain(inner) {
         return inner;
     }
-    inner.trim()
+    trim_unicode(inner)
+}
+
+// The same for any text. It isn't inlined, so that `trim` saves no registers for it.
+#[inline(never)]
+#[tactic(auto, unfolding(crate::specs::Trimming::trim))]
+fn trim_unicode(text: &[u8]) -> &[u8]
+    ensures { result.now ≡ spec_trim text.now }
+{
+    text.trim()
 }
 
 #[inline(always)]
