@@ -1,7 +1,5 @@
 //! The calls whose allocations are refused.
 
-use std::fmt;
-
 /// A call of the library, or an allocation of this program itself.
 #[derive(Clone, Copy, Debug)]
 pub enum Call {
@@ -50,10 +48,4 @@ pub enum Call {
     AheadOfNothing,
     AfterNothing,
     AfterAll,
-}
-
-impl fmt::Display for Call {
-    fn fmt<W: fmt::Write>(&self, f: &mut fmt::Formatter<W>) -> fmt::Result {
-        write!(f, "{self:?}")
-    }
 }
