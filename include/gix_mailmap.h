@@ -303,9 +303,9 @@ gix_mailmap_status gix_mailmap_unneeded(const gix_mailmap_named *mailmaps, size_
  *     Jane Doe <jane@x>
  *
  * and an empty line. `#?` begins the lines for a group that shares only a name, since these may be two people: whoever
- * deletes the `#?` accepts the line. The text is a mailmap, to be appended to the last one, after a line feed at its
- * end. `contacts` has a contact on each line. Mailmaps are as for gix_mailmap_report; their names are not read.
- * `needed` is the length of the text, and 0 on OUT_OF_MEMORY.
+ * deletes the `#?` accepts the line. The text is a mailmap, to be appended to the last one. If that is not empty and
+ * does not end with a line feed, the text begins with one. `contacts` has a contact on each line. Mailmaps are as for
+ * gix_mailmap_report; their names are not read. `needed` is the length of the text, and 0 on OUT_OF_MEMORY.
  * OK; TOO_SHORT; OUT_OF_MEMORY. */
 gix_mailmap_status gix_mailmap_suggest(const gix_mailmap_named *mailmaps, size_t count, const char *contacts,
                                        size_t contacts_len, char *GIX_MAILMAP_RESTRICT out, size_t out_len,

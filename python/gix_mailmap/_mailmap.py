@@ -228,6 +228,7 @@ def unneeded(mailmaps: Iterable[tuple[AnyText, AnyText]], contacts: AnyText) -> 
 def suggest(mailmaps: Iterable[tuple[Any, Any]], contacts: Any) -> Union[str, bytes]:
     """The lines that mailmaps lack for contacts, as `mailmap_verify --suggest` prints them: where answers that differ
     share an email or a name, how often each comes, and lines that make them one. `#?` begins those for a shared name.
+    If the last mailmap isn't empty and doesn't end with a line feed, the text begins with one, so it can be appended.
 
     >>> print(suggest([("own", "<jane@x> <jd@y>\\n")], "Jane <jane@x>\\njd <jd@y>\\nJane <jane@x>"), end="")
     # 2 Jane <jane@x>

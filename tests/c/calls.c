@@ -310,6 +310,10 @@ static const struct lacking {
     {{{NULL, 0, NULL, 0}, {NULL, 0, NULL, 0}},
      "#x <c@x>\n#x <e<f@x>\n#x <c@x>\n#x <c@x>\n",
      "# 3 #x <c@x>\n# 1 #x <e<f@x>\n#? #x <c@x> <e<f@x>\n\n"},
+    /* a last mailmap without a line feed at its end */
+    {{{NULL, 0, TEXT("1\n")}, {NULL, 0, TEXT("1")}},
+     "j <a@x>\nJ <a@x>\n",
+     "\n# 1 j <a@x>\n# 1 J <a@x>\nj <a@x>\n\n"},
     /* nothing to suggest */
     {{{TEXT("team"), TEXT("Jane Doe <jd@y>\n")}, {NULL, 0, NULL, 0}}, "jd <jd@y>\nJane <jd@y>\nplain", ""}};
 static const struct lacking *lacking;

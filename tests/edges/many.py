@@ -141,8 +141,8 @@ def many_lines():
     answers = [b"N%d %06d <n@y>" % (ROUNDS - 1, number) for number in numbers]
     explained = joined(b"<M%06d@x> is %b by map:%d" % (number, answers[number], before + number + 1)
                        for number in numbers)
-    # The answers share an email, and come equally often, so all become the first.
-    united = joined(b"# 1 " + answer for answer in answers)
+    # The answers share an email, and come equally often, so all become the first. LAST has no line feed.
+    united = b"\n" + joined(b"# 1 " + answer for answer in answers)
     united += joined(b"%b <M%06d@x>" % (answers[0], number) for number in numbers[1:]) + b"\n"
     Path("map").write_bytes(mailmap)
     for program, words, given, status, printed in [

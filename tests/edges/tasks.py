@@ -11,6 +11,7 @@ SPLIT = b"N <a@x>\n--\nb <A@x>\n"
 COUNTED = b"b <A@x>\r\n\nno contact\n a <a@x> end\nb <b@x>"
 NO_EMAIL = b":1: error: no email in brackets [no-email]\n"
 SAME_NAME = b"<stdin>:3: note: B <M@y> (1) has the name of b <A@x> (2) [same-name]\n"
+ALIKE = b"# 2 b <A@x>\n# 1 B <M@y>\n#?b <A@x> <M@y>\n\n"
 MISSING = b"three: No such file or directory"
 # The program, its arguments, its input, the status, and the output or, with the status 2, the message.
 TASKS = [
@@ -57,6 +58,12 @@ TASKS = [
     (VERIFY, "mapped --suggest -", CONTACTS, 0,
      b"# 2 M <m@y>\n# 1 B <M@y>\nM <m@y> <M@y>\n\n# 3 M <m@y>\n# 1 m <q@x>\n#?M <m@y> <q@x>\n\n"),
     (VERIFY, "--suggest=cased one", CONTACTS, 0, b""),
+    # after a line feed, if the last mailmap isn't empty and has none at its end
+    (VERIFY, "--suggest - mapped one", CONTACTS, 0,
+     b"\n# 2 M <m@y>\n# 1 B <M@y>\nM <m@y> <M@y>\n\n# 3 M <m@y>\n# 1 m <q@x>\n#?M <m@y> <q@x>\n\n"),
+    (VERIFY, "--suggest - one", CONTACTS, 0, b"\n" + ALIKE),
+    (VERIFY, "--suggest - one none", CONTACTS, 0, ALIKE),
+    (VERIFY, "--suggest -", CONTACTS, 0, ALIKE),
     (VERIFY, "--suggest folder -", b"", 2, b"-: No such file or directory"),
     (SHORTLOG, "", COUNTED, 0, b"     1\ta\n     2\tb\n"),
     (SHORTLOG, "mapped", COUNTED, 0, b"     2\tM\n     1\tb\n"),

@@ -142,6 +142,12 @@ def tallies_of(contacts):
     return tallied((contact, 1, number) for contact, number in numbered if contact)
 
 
+def feed_after(buffers):
+    """The line feed that the last mailmap lacks at its end."""
+    last = buffers[-1] if buffers else b""
+    return b"\n" if last and not last.endswith(b"\n") else b""
+
+
 def suggest(buffers, contacts):
     """What is printed: the lines for answers that share an email, and those for answers that then share a name."""
     histories, tallies, printed = histories_of(buffers), tallies_of(contacts), b""
@@ -151,4 +157,4 @@ def suggest(buffers, contacts):
             text, more = suggestion(histories, group, mark)
             printed, made = printed + text, made + more
         histories = histories.plus(made)
-    return printed
+    return printed and feed_after(buffers) + printed

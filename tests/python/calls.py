@@ -157,6 +157,7 @@ class Texts(unittest.TestCase):
             (["<A@x> <é@x>\n<a@x>\n".encode(), b"ann < d@x>\n"], b"Ann <d@x>",
              b"# 1 ann <d@x>\n# 1 Ann <d@x> by git\nann <d@x>\n\n"),
             ([], b"#x <c@x>\n#x <e@x>\n#x <c@x>\r\n", b"# 2 #x <c@x>\n# 1 #x <e@x>\n#? #x <c@x> <e@x>\n\n"),
+            ([b"1\n", b"1"], b"j <a@x>\nJ <a@x>\n", b"\n# 1 j <a@x>\n# 1 J <a@x>\nj <a@x>\n\n"),
             ([MAP], b"j <joe@x>\nplain\n\n", b""),
         ]
         for texts, contacts, suggested in cases:

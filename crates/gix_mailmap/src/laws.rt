@@ -29,7 +29,7 @@ pub use mailmap_snapshot::laws::{
 };
 pub use mailmap_suggestions::laws::{
     law_exact, law_linked, law_others_stay, law_read_alike, law_suggested_lines,
-    law_suggested_text, law_suggestions,
+    law_suggested_text, law_suggestions, law_text_after,
 };
 
 /// If strict parsing of a line yields an entry, the ignored text is at the end of the line, followed only by white

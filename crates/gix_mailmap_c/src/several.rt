@@ -2,7 +2,7 @@
 ghost use Rattle.std.specs.Prelude.{◌≡◌, IfOk, Some, map};
 ghost use Rattle.mailmap_contacts.specs.Counts.{AreContactsOf};
 ghost use Rattle.mailmap_findings.specs.Positions.{whole_lines};
-ghost use Rattle.mailmap_suggestions.specs.SuggestedText.{suggestions_text};
+ghost use Rattle.mailmap_suggestions.specs.SuggestedText.{printed};
 ghost use Rattle.mailmap_suggestions.specs.Views.{suggestion_of};
 ghost use Rattle.mailmap_report.specs.Explained.{ExplainsAll, each_line, explained_line};
 ghost use Rattle.gix_mailmap_c.specs.Buffers.{IsOutput};
@@ -18,7 +18,7 @@ use mailmap_report::explanation::Explainer;
 use mailmap_report::pieces::{self, FindingPieces};
 use mailmap_report::settings::Settings;
 use mailmap_suggestions::suggestions::{Suggestion, suggest};
-use mailmap_suggestions::text::push_suggestion;
+use mailmap_suggestions::text::{feed_after, push_suggestion};
 use std::alloc::{AllocError, Global};
 
 type Made<T> = Result<Vec<T>, AllocError>;
@@ -164,7 +164,8 @@ fn positions(alloc: Global, found: &[verify::Position]) -> Made<Position>
     found.iter().map(of).collect(alloc)
 }
 
-/// Writes the lines that several mailmaps lack for the contacts of a history, as [`suggest`] suggests them.
+/// Writes the lines that several mailmaps lack for the contacts of a history, as [`suggest`] suggests them. They can be
+/// appended to the last mailmap: if it lacks a line feed at its end, one comes first.
 ///
 /// Takes texts and returns what [`gix_mailmap_text_report`] does. The lengths of names aren't used.
 #[unsafe(no_mangle)]
@@ -188,7 +189,7 @@ fn suggested(alloc: Global, lengths: &[Lengths], texts: &[u8], contacts: &[u8]) 
     let buffers = texts_of(alloc, lengths, texts)?;
     let counted = counted_in(alloc, contacts)?;
     let suggestions = suggest(alloc, buffers.as_slice(), &counted)?;
-    text_of(alloc, suggestions.as_slice())
+    text_of(alloc, buffers.as_slice(), suggestions.as_slice())
 }
 
 fn counted_in(alloc: Global, contacts: &[u8]) -> Result<Contacts, AllocError>
@@ -199,10 +200,14 @@ fn counted_in(alloc: Global, contacts: &[u8]) -> Result<Contacts, AllocError>
     counter.into_contacts()
 }
 
-fn text_of(alloc: Global, suggestions: &[Suggestion<'_>]) -> Made<u8>
-    ensures { IfOk result (λ text. text.items ≡ suggestions_text (map suggestion_of suggestions.now)) }
+fn text_of(alloc: Global, buffers: &[&[u8]], suggestions: &[Suggestion<'_>]) -> Made<u8>
+    ensures { IfOk result (λ text. text.items
+        ≡ printed (map (λ b. b.now) buffers.now) (map suggestion_of suggestions.now)) }
 {
-    let mut text = Vec::new(alloc);
+    if suggestions.is_empty() {
+        return Ok(Vec::new(alloc));
+    }
+    let mut text = Vec::from_slice(alloc, feed_after(buffers))?;
     for suggestion in suggestions {
         push_suggestion(&mut text, suggestion)?;
     }

@@ -7,3 +7,4 @@ pub mod Suggestions
 pub mod SuggestedText
 pub mod GroupEntries
 pub mod Views
+pub mod Appending

@@ -1,10 +1,12 @@
 -- The text of suggestions: groups with their counted answers as comments, and the lines of their entries. It is a
 -- mailmap, in which the lines that need a look first are comments, too.
-use Rattle.std.specs.Prelude.{◌++◌, ℕ, Bool, true, false, if◌then◌else◌, unwrap_or, codes, decimal, List, [], ◌∷◌}
+use Rattle.std.specs.Prelude.{◌++◌, ◌==◌, ℕ, Bool, true, false, if◌then◌else◌, Option, None, Some, unwrap_or, codes, decimal}
+use Rattle.std.specs.Prelude.{List, [], ◌∷◌}
 use Rattle.std.specs.List.{flat_map}
 use Rattle.mailmap_contacts.specs.Contacts.{Contact, Tally}
 use Rattle.mailmap_entries.specs.Entries.{Mapping}
 use Rattle.mailmap_entries.specs.Folding.{Text}
+use Rattle.mailmap_entries.specs.Semantics.{last}
 use Rattle.mailmap_grammar.specs.CanonicalText.{bracketed_email, email_part, name_part}
 use Rattle.mailmap_grammar.specs.Lines.{is_comment}
 use Rattle.mailmap_snapshot.specs.Contacts.{contact_line}
@@ -65,3 +67,19 @@ suggested_text = text_by true
 -- with all marks deleted
 abbrev pub reviewed_text : Histories → List Tally → Text
 reviewed_text = text_by false
+
+-- ---- after mailmaps
+
+-- a line feed after a last byte that is none
+abbrev pub feed_unless : Option ℕ → Text
+feed_unless None = []
+feed_unless (Some b) = if b == 10 then [] else 10 ∷ []
+
+-- a line feed if the last mailmap isn't empty and doesn't end with one
+abbrev pub feed_after : List Text → Text
+feed_after buffers = feed_unless (last (unwrap_or (last buffers) []))
+
+-- the text of suggestions as it is printed, to be appended to the last mailmap
+abbrev pub printed : List Text → List Suggestion → Text
+printed buffers [] = []
+printed buffers (s ∷ rest) = feed_after buffers ++ suggestions_text (s ∷ rest)

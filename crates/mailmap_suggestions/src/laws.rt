@@ -3,16 +3,17 @@ ghost use Rattle.std.specs.List.{AllByRecursion, flat_map};
 ghost use Rattle.std.specs.Prelude.{◌≡◌, ◌⊎◌, ◌++◌, ◌∷◌, [], ℕ, Bool, IsSome, List, None, Ok, Some, true};
 ghost use Rattle.mailmap_entries.specs.Entries.{Mapping, mapping};
 ghost use Rattle.mailmap_entries.specs.Folding.{Text, folded};
-ghost use Rattle.mailmap_entries.specs.Semantics.{is_accepted, key, last_fields, spelling};
+ghost use Rattle.mailmap_entries.specs.Semantics.{is_accepted, key, last, last_fields, spelling};
 ghost use Rattle.mailmap_contacts.specs.Contacts.{Contact, Tally, answer_to, contacts_from};
 ghost use Rattle.mailmap_findings.specs.Findings.{first_read_otherwise};
 ghost use Rattle.mailmap_findings.specs.GitAnswers.{git_mappings};
 ghost use Rattle.mailmap_grammar.specs.CanonicalText.{IsWritable};
 ghost use Rattle.mailmap_grammar.specs.Lines.{HoldsNo, mappings_of, reading, strict_reading};
+ghost use Rattle.mailmap_suggestions.specs.Appending.{ends_line};
 ghost use Rattle.mailmap_suggestions.specs.Forms.{Histories, IsAnswered, Stays, alike, own_key};
 ghost use Rattle.mailmap_suggestions.specs.Suggestions.{suggestions};
-ghost use Rattle.mailmap_suggestions.specs.SuggestedText.{count_line, entry_line, reviewed_text, mark, suggested_text};
-ghost use Rattle.mailmap_suggestions.specs.SuggestedText.{suggestions_text};
+ghost use Rattle.mailmap_suggestions.specs.SuggestedText.{count_line, entry_line, feed_unless, reviewed_text};
+ghost use Rattle.mailmap_suggestions.specs.SuggestedText.{mark, suggested_text, suggestions_text};
 ghost use Rattle.mailmap_suggestions.specs.GroupEntries.{AllAgree, HasNoEmptyName, IsWritableContact, Unites, contacts};
 ghost use Rattle.mailmap_suggestions.specs.GroupEntries.{email_entries, email_shared, name_entries, name_shared};
 
@@ -97,4 +98,14 @@ pub fn law_suggested_text()
     ensures contacts { (lines : List Text) → AllByRecursion (HoldsNo 10) lines
         → AllByRecursion (λ t. IsWritableContact t.contact) (contacts_from 1 lines) }
     ensures printed { (h : Histories) (ts : List Tally) → suggestions_text (suggestions h ts) ≡ suggested_text h ts }
+{}
+
+/// A text after one that is empty or ends with a line feed is read as both, one after the other, by this library and
+/// by git. So is a text after any other, with the line feed between them that `--suggest` prints first then.
+pub fn law_text_after()
+    ensures ours { (s t : Text) → ends_line s ≡ true → mappings_of (s ++ t) ≡ mappings_of s ++ mappings_of t }
+    ensures gits { (s t : Text) → ends_line s ≡ true → git_mappings (s ++ t) ≡ git_mappings s ++ git_mappings t }
+    ensures ours_fed { (s t : Text) → mappings_of (s ++ feed_unless (last s) ++ t) ≡ mappings_of s ++ mappings_of t }
+    ensures gits_fed { (s t : Text)
+        → git_mappings (s ++ feed_unless (last s) ++ t) ≡ git_mappings s ++ git_mappings t }
 {}

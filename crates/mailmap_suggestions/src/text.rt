@@ -1,10 +1,12 @@
 //! The text of suggestions.
-ghost use Rattle.std.specs.Prelude.{◌≡◌, ◌++◌, ◌∷◌, [], OnOk, map, unwrap_or};
+ghost use Rattle.std.specs.Prelude.{◌≡◌, ◌++◌, ◌∷◌, [], OnOk, Some, map, unwrap_or};
 ghost use Rattle.std.specs.Option.{option_copied};
 ghost use Rattle.mailmap_contacts.specs.Answers.{tally_of};
 ghost use Rattle.mailmap_entries.specs.Entries.{mapping_of};
+ghost use Rattle.mailmap_entries.specs.Semantics.{last};
 ghost use Rattle.mailmap_grammar.specs.Lines.{is_comment};
-ghost use Rattle.mailmap_suggestions.specs.SuggestedText.{count_line, count_lines, entry_line, entry_lines, fields_text, mark, suggestion_text};
+ghost use Rattle.mailmap_suggestions.specs.SuggestedText.{count_line, count_lines, entry_line, entry_lines, feed_after};
+ghost use Rattle.mailmap_suggestions.specs.SuggestedText.{feed_unless, fields_text, mark, suggestion_text};
 ghost use Rattle.mailmap_suggestions.specs.Views.{suggestion_of};
 
 use crate::suggestions::Suggestion;
@@ -14,6 +16,33 @@ use mailmap_entries::Entry;
 use mailmap_grammar::writing::{push_email, push_name};
 use mailmap_snapshot::check::push_contact;
 use std::alloc::AllocError;
+
+/// The line feed that has to come before the text of suggestions, if there are any: none if the last mailmap is empty
+/// or ends with one.
+pub fn feed_after(buffers: &[&[u8]]) -> &'static [u8]
+    ensures { result.now ≡ feed_after (map (λ b. b.now) buffers.now) }
+{
+    match buffers.last() {
+        Some(buffer) => missing_feed(buffer),
+        None => b"",
+    }
+}
+
+// A line feed, if a text isn't empty and doesn't end with one.
+fn missing_feed(text: &[u8]) -> &'static [u8]
+    ensures { result.now ≡ feed_unless (last text.now) }
+{
+    match text.last() {
+        Some(last) => feed_unless(*last),
+        None => b"",
+    }
+}
+
+fn feed_unless(last: u8) -> &'static [u8]
+    ensures { result.now ≡ feed_unless (Some last) }
+{
+    if last == b'\n' { b"" } else { b"\n" }
+}
 
 /// Appends the lines of a suggestion: how often each answer comes, the entries, and an empty line.
 ///

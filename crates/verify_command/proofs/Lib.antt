@@ -1,2 +1,3 @@
 mod EachLine
 mod Leaving
+mod Suggesting

@@ -12,8 +12,8 @@ use Rattle.mailmap_findings.specs.Remarks.{AreRemarks, Remark}
 use Rattle.mailmap_suggestions.specs.Counted.{other_git_answers}
 use Rattle.mailmap_suggestions.specs.Forms.{Histories}
 use Rattle.mailmap_suggestions.specs.Histories.{histories_of}
-use Rattle.mailmap_suggestions.specs.SuggestedText.{suggested_text, suggestion_text}
-use Rattle.mailmap_suggestions.specs.Suggestions.{Suggestion}
+use Rattle.mailmap_suggestions.specs.SuggestedText.{printed, suggestion_text}
+use Rattle.mailmap_suggestions.specs.Suggestions.{Suggestion, suggestions}
 use Rattle.command_line.specs.Answering.{AnswersAll, AnswersAllRead, AnswersRead}
 use Rattle.command_line.specs.Failures.{IsOfFile}
 use Rattle.command_line.specs.declared.failure.Failure.{Failure}
@@ -104,14 +104,20 @@ abbrev pub WithContacts : (List Text → Text → Outcome → Text → Type 0) �
 WithContacts IsMade at input w =
     FromMailmaps (λ mailmaps. FromContacts (IsMade mailmaps) at w.contacts input) at input w
 
--- the lines of a suggestion are no finding
-abbrev pub suggestion_piece : Suggestion → Piece
-suggestion_piece s = record { text = suggestion_text s.needs_review s; counts = false }
+-- the lines of a suggestion, after a text; they are no finding
+abbrev pub suggestion_piece : Text → Suggestion → Piece
+suggestion_piece start s = record { text = start ++ suggestion_text s.needs_review s; counts = false }
 
--- the lines that the mailmaps lack for the contacts
+-- one for each suggestion, the first after this text
+abbrev pub suggestion_pieces : Text → List Suggestion → List Piece
+suggestion_pieces start [] = []
+suggestion_pieces start (s ∷ rest) = suggestion_piece start s ∷ suggestion_pieces [] rest
+
+-- The text has the lines that the mailmaps lack for the contacts, and can be appended to the last mailmap.
 abbrev pub AreSuggested : List Text → Text → Outcome → Text → Type 0
 AreSuggested mailmaps lines outcome text =
-    (text ≡ suggested_text (histories_of mailmaps) (tallied (contacts_from 1 (whole_lines lines)))) × (outcome ≡ Clean)
+    let found = suggestions (histories_of mailmaps) (tallied (contacts_from 1 (whole_lines lines))) in
+    (text ≡ printed mailmaps found) × (outcome ≡ Clean)
 
 -- The text is made of explanations with the mailmaps in the files at these paths.
 abbrev pub ExplainsBy : (Text → AtPath) → List Text → ((Text → Text) → Text → Type 0) → Text → Type 0

@@ -7,7 +7,7 @@ ghost use Rattle.mailmap_entries.specs.Folding.{Text};
 ghost use Rattle.mailmap_contacts.specs.Counts.{AreContactsOf};
 ghost use Rattle.mailmap_suggestions.specs.Views.{suggestion_of};
 ghost use Rattle.verify_command.specs.Task.{AreContacts, AreSuggested, EndsPrinting, FailsForContacts, FromContacts};
-ghost use Rattle.verify_command.specs.Task.{IsReportBeside, Leaves, is_dash, suggestion_piece, wanted_of};
+ghost use Rattle.verify_command.specs.Task.{IsReportBeside, Leaves, is_dash, suggestion_pieces, wanted_of};
 
 use crate::asked::Request;
 use crate::failure::TaskFailure;
@@ -25,7 +25,7 @@ use mailmap_findings::verify::{Mailmaps, Verification};
 use mailmap_report::pieces::{Piece, Pieces, PiecesBeside};
 use mailmap_suggestions::answers::other_git_answers;
 use mailmap_suggestions::suggestions::{Suggestion, suggest};
-use mailmap_suggestions::text::push_suggestion;
+use mailmap_suggestions::text::{feed_after, push_suggestion};
 use std::alloc::{AllocError, Global};
 use std::io::{Read, Write};
 use std::slice;
@@ -49,7 +49,7 @@ pub(crate) fn report_contacts<F: FileSystem, R: Read, W: Write>(
     print_report(alloc, request, buffers, &counted, output)
 }
 
-/// Reads the contacts, and prints the lines that the mailmaps in buffers lack for them.
+/// Reads the contacts, and prints the lines that the mailmaps in buffers lack for them, to be appended to the last one.
 pub(crate) fn suggest_lines<F: FileSystem, R: Read, W: Write>(
     system: &F,
     alloc: Global,
@@ -153,25 +153,31 @@ fn print_suggestions<W: Write>(
     ensures only { IfErr result EndsPrinting }
 {
     let suggestions = suggest(alloc, buffers, counted)?;
-    let found = suggestions.as_slice().iter();
-    print_pieces(alloc, SuggestionPieces { suggestions: found }, output)
+    let lines = SuggestionPieces {
+        start: feed_after(buffers),
+        suggestions: suggestions.as_slice().iter(),
+    };
+    print_pieces(alloc, lines, output)
 }
 
-// The text of suggestions: for each how often each answer comes, as comments, and the lines of its entries.
+// The text of suggestions: for each how often each answer comes, as comments, and the lines of its entries. The first
+// comes after the line feed that the last mailmap lacks.
 #[derive(Drop)]
 struct SuggestionPieces<'s, 'a> {
+    start: &'static [u8],
     suggestions: slice::Iter<'s, Suggestion<'a>>,
 }
 
 impl Pieces for SuggestionPieces<'_, '_> {
-    ghost left = { λ s. map suggestion_piece (map suggestion_of (iter_rest s.suggestions)) };
+    ghost left = { λ s. suggestion_pieces s.start.now (map suggestion_of (iter_rest s.suggestions)) };
 
     fn next_piece(&mut self, alloc: Global) -> Result<Option<Piece>, AllocError> {
         let Some(suggestion) = self.suggestions.next() else {
             return Ok(None);
         };
-        let mut text = Vec::new(alloc);
+        let mut text = Vec::from_slice(alloc, self.start)?;
         push_suggestion(&mut text, suggestion)?;
+        self.start = b"";
         Ok(Some(Piece {
             text,
             counts: false,

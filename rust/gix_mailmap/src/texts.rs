@@ -78,7 +78,7 @@ pub fn unneeded(mailmaps: &[Named<'_>], contacts: &[u8]) -> Vec<Position> {
 }
 
 /// The lines that some mailmaps lack for contacts, as `mailmap_verify --suggest` prints them. The text is a mailmap, to
-/// be appended to the last one, after a line feed at its end.
+/// be appended to the last one. If that isn't empty and doesn't end with a line feed, the text begins with one.
 ///
 /// ```
 /// let said = gix_mailmap::suggest(&[], b"Jane Doe <jane@x>\nJane Doe <jane@x>\njane <jane@x>\n");
