@@ -37,8 +37,8 @@ class Mailmap(_native.Mailmap[AnyStr], Sequence[Entry[AnyStr]]):
     ...     len(mailmap), mailmap[0].new_name, [entry.old_email for entry in mailmap], mailmap.write()
     (2, 'M', ['a@x', 'jd@y'], ' M <a@x>\\n Jane Doe <jd@y>\\n')
 
-    Threads may share a mailmap: no other thread runs during a call. Each call except `close` and `closed` raises Closed
-    once the mailmap is closed. A mailmap that nothing refers to is closed. A forked process has a copy of its own.
+    Threads may share a mailmap: no other thread runs during a call. Each call except `close`, `closed` and `repr` raises
+    Closed once the mailmap is closed. A mailmap that nothing refers to is closed. A forked process has a copy of its own.
     """
 
     __slots__ = ("__weakref__",)
@@ -83,6 +83,7 @@ class Mailmap(_native.Mailmap[AnyStr], Sequence[Entry[AnyStr]]):
         ...     mailmap.map_contact("jd <JD@y>")
         'Jane Doe <jane@x>'
         """
+        len(self)  # raises Closed
         return self._of_trimmed(next(_native.Stream(Mailmap(), [contact])))
 
     @overload

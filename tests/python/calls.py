@@ -404,6 +404,7 @@ class Handles(unittest.TestCase):
             lambda: mailmap.lookup(b"jd", b"jd@y"),
             lambda: mailmap.add(MAP),
             lambda: mailmap.add_entry(JOE),
+            lambda: mailmap.map_contact(b"plain"),
             mailmap.write,
             mailmap.entries,
             lambda: len(mailmap),

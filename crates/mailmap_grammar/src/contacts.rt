@@ -72,7 +72,7 @@ pub fn trim(text: &[u8]) -> &[u8]
     trim_unicode(inner)
 }
 
-// The same for any text. It isn't inlined, so that `trim` saves no registers for it.
+// Trims any text. It isn't inlined, so that `trim` saves no registers for it.
 #[inline(never)]
 #[tactic(auto, unfolding(crate::specs::Trimming::trim))]
 fn trim_unicode(text: &[u8]) -> &[u8]
