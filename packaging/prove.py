@@ -25,10 +25,9 @@ from pathlib import Path
 TOP = Path(__file__).resolve().parents[1]
 # the parts of a crate that a proof reads
 PARTS = ("src", "specs", "proofs")
-# Crates side by side, one job each, use the processors best; a crate gets more jobs where no other is ready. The crate
-# that the longest chain of crates waits for comes first.
+# Crates side by side, one job each: a second job for a crate takes a fifth more processor time. The crate that the
+# longest chain of crates waits for comes first.
 PROCESSORS = len(os.sched_getaffinity(0))
-MOST_JOBS = 4
 FOUND = re.compile(r"so far: (\d+) of (\d+) functions checked")
 PROVED = re.compile(r"^logic=proved functions=(\d+)", re.MULTILINE)
 
@@ -139,7 +138,7 @@ def follow(running, crate, log):
                 crate.progress = f"{crate.name} {found[1]} of {found[2]}"
 
 
-def prove(crate, known, version, jobs):
+def prove(crate, known, version):
     """Proves a crate. Returns whether that succeeded, and a message."""
     begun, sum = time.monotonic(), digest(crate, known)
     crate.progress = crate.name
@@ -150,7 +149,7 @@ def prove(crate, known, version, jobs):
         out.mkdir(exist_ok=True)
         for stale in "proved", crate.name:
             (out / stale).unlink(missing_ok=True)
-        words = ["rt", "run" if crate.is_program else "lib", "--jobs", str(jobs)]
+        words = ["rt", "run" if crate.is_program else "lib", "--jobs", "1"]
         words += ["--", "--help"] if crate.is_program else []
         try:
             with subprocess.Popen(
@@ -158,6 +157,8 @@ def prove(crate, known, version, jobs):
                 encoding="utf-8", errors="replace",
             ) as running:
                 follow(running, crate, log)
+                _, status, used = os.wait4(running.pid, 0)
+                running.returncode = os.waitstatus_to_exitcode(status)
             # the status of `rt run` is the program's own
             is_proved = (out / crate.made().name).exists() and (crate.is_program or not running.returncode)
             functions = PROVED.findall(log.read_text(encoding="utf-8"))
@@ -168,7 +169,8 @@ def prove(crate, known, version, jobs):
             shutil.move(out, crate.folder / "out")
     # rt reuses a library if another copy of this repository on the machine has proved the same files
     what = f"{functions[-1]} functions proved" if functions else "as another copy on this machine proved it"
-    return is_proved, f"{what if is_proved else 'NOT PROVED'} in {time.monotonic() - begun:.0f} s"
+    took = f"{time.monotonic() - begun:.0f} s, and {used.ru_utime + used.ru_stime:.0f} s of processor time"
+    return is_proved, f"{what if is_proved else 'NOT PROVED'} in {took}"
 
 
 class Report:
@@ -205,17 +207,14 @@ def prove_all(crates, known, version):
     above = {crate.name: [other for other in crates if crate in other.uses] for crate in crates}
     length = {crate.name: chain(crate, above) for crate in crates}
     waiting = sorted(crates, key=lambda crate: -length[crate.name])
-    report, running, jobs, failed = Report(len(crates)), {}, {}, []
+    report, running, failed = Report(len(crates)), {}, []
     with ThreadPoolExecutor(PROCESSORS) as pool:
         while running or waiting and not failed:
             unproved = {*waiting, *running.values(), *failed}
             ready = [crate for crate in waiting if not unproved & {*crate.uses}] if not failed else []
-            idle = PROCESSORS - sum(jobs[crate] for crate in running.values())
-            for left, crate in zip(range(len(ready), 0, -1), ready[:idle]):
-                jobs[crate] = max(1, min(MOST_JOBS, idle // left))
-                idle -= jobs[crate]
+            for crate in ready[: PROCESSORS - len(running)]:
                 waiting.remove(crate)
-                running[pool.submit(prove, crate, known, version, jobs[crate])] = crate
+                running[pool.submit(prove, crate, known, version)] = crate
             for ended in wait(running, timeout=1, return_when=FIRST_COMPLETED).done:
                 crate = running.pop(ended)
                 is_proved, what = ended.result()

@@ -23,7 +23,7 @@ pub use Rattle.mailmap_findings.specs.Explanations
 pub use Rattle.mailmap_findings.specs.Pruning
 pub use Rattle.mailmap_findings.specs.Needs
 pub use Rattle.mailmap_findings.specs.Remarks
-pub mod IgnoredText
+pub use Rattle.mailmap_findings.specs.IgnoredText
 pub use Rattle.mailmap_snapshot.specs.Contacts
 pub use Rattle.mailmap_snapshot.specs.Parts
 pub use Rattle.mailmap_snapshot.specs.Streams

@@ -1,9 +1,4 @@
 //! Laws about the definitions. These functions do nothing: each states its law in its contract.
-ghost use Rattle.std.specs.Prelude.{◌≡◌, ℕ, Ok, Some};
-ghost use Rattle.mailmap_entries.specs.Entries.{Mapping};
-ghost use Rattle.mailmap_entries.specs.Folding.{Text};
-ghost use Rattle.mailmap_grammar.specs.Lines.{strict_reading};
-ghost use Rattle.gix_mailmap.specs.IgnoredText.{ReadsWithoutIgnored};
 
 pub use mailmap_entries::laws::{law_entries, law_order, law_order_without_case};
 pub use mailmap_entries::semantics::{
@@ -12,8 +7,8 @@ pub use mailmap_entries::semantics::{
 };
 pub use mailmap_findings::laws::{
     law_contacts_stay, law_deleted, law_deleted_texts, law_equal_contacts, law_equal_explanations,
-    law_equal_findings, law_equal_git_readings, law_equal_kinds, law_equal_remarks, law_in_order,
-    law_none_left, law_one_answer, law_one_unneeded, law_pruned, law_pruned_findings,
+    law_equal_findings, law_equal_git_readings, law_equal_kinds, law_equal_remarks, law_ignored,
+    law_in_order, law_none_left, law_one_answer, law_one_unneeded, law_pruned, law_pruned_findings,
     law_pruned_for_git, law_whole_lines,
 };
 pub use mailmap_grammar::laws::{
@@ -31,10 +26,3 @@ pub use mailmap_suggestions::laws::{
     law_exact, law_linked, law_others_stay, law_read_alike, law_suggested_lines,
     law_suggested_text, law_suggestions, law_text_after,
 };
-
-/// If strict parsing of a line yields an entry, the ignored text is at the end of the line, followed only by white
-/// space. Without it the line gives the same entry, and no text is ignored.
-pub fn law_ignored()
-    ensures { (n : ℕ) (line : Text) (e : Mapping) → strict_reading n line ≡ Some (Ok e)
-        → ReadsWithoutIgnored n line e }
-{}

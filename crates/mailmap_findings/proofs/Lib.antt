@@ -7,3 +7,4 @@ pub mod Read
 pub mod Verified
 pub mod GitLines
 pub mod ContactNeeds
+pub mod IgnoredText

@@ -10,3 +10,4 @@ pub mod Explanations
 pub mod Pruning
 pub mod Needs
 pub mod Remarks
+pub mod IgnoredText

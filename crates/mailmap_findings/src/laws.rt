@@ -1,6 +1,6 @@
 //! Laws about lines, findings, pruned texts, and the lines that contacts need. These functions do nothing: each states
 //! its law in its contract.
-ghost use Rattle.std.specs.Prelude.{◌≡◌, ◌≢◌, ◌↔◌, ◌++◌, ◌∷◌, [], List, None, Some, false, filter, map, not, option_to_list, true, Bool, Contains};
+ghost use Rattle.std.specs.Prelude.{◌≡◌, ◌≢◌, ◌↔◌, ◌++◌, ◌∷◌, [], ℕ, List, None, Ok, Some, false, filter, map, not, option_to_list, true, Bool, Contains};
 ghost use Rattle.std.specs.List.{flat_map};
 ghost use Rattle.mailmap_entries.specs.Entries.{Mapping};
 ghost use Rattle.mailmap_entries.specs.Folding.{Text};
@@ -10,6 +10,7 @@ ghost use Rattle.mailmap_redundancy.specs.Redundancy.{entries};
 ghost use Rattle.mailmap_redundancy.specs.declared.located.Position.{Position};
 ghost use Rattle.mailmap_findings.specs.Findings.{AreFindings, AreInOrder, NewContact, Finding, IsPruned, first_read_otherwise, is_reported_redundant, is_same_contact};
 ghost use Rattle.mailmap_findings.specs.GitAnswers.{git_answer};
+ghost use Rattle.mailmap_findings.specs.IgnoredText.{ReadsWithoutIgnored};
 ghost use Rattle.mailmap_findings.specs.Positions.{Line, entry, located_lines, located, same_position, whole_lines, texts_left};
 ghost use Rattle.mailmap_findings.specs.Pruning.{is_left, lines_left, renumbered};
 ghost use Rattle.mailmap_findings.specs.Needs.{AreUnneeded, is_deletable};
@@ -138,4 +139,11 @@ pub fn law_one_unneeded()
         → (missing : List Position) × AreUnneeded buffers contacts missing }
     ensures one { (buffers : List Text) (contacts : Text) (missing other : List Position)
         → AreUnneeded buffers contacts missing → AreUnneeded buffers contacts other → missing ≡ other }
+{}
+
+/// If strict parsing of a line yields an entry, the ignored text is at the end of the line, followed only by white
+/// space. Without it the line gives the same entry, and no text is ignored.
+pub fn law_ignored()
+    ensures { (n : ℕ) (line : Text) (e : Mapping) → strict_reading n line ≡ Some (Ok e)
+        → ReadsWithoutIgnored n line e }
 {}

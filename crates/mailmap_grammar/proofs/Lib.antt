@@ -5,6 +5,7 @@ pub mod Readings
 pub mod FaultLines
 pub mod SplitOnce
 pub mod Trimmed
+pub mod WhiteEnds
 pub mod Skipped
 pub mod LineFeeds
 pub mod LineParts

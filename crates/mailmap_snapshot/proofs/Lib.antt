@@ -1,6 +1,5 @@
 pub mod Resolved
 pub mod Sources
-pub mod WhiteEnds
 pub mod WritableLines
 pub mod WrittenLine
 pub mod Dividers

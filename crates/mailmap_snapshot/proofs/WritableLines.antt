@@ -9,7 +9,7 @@ use Rattle.mailmap_grammar.proofs.FaultLines.{if_read}
 use Rattle.mailmap_grammar.proofs.Cut.{absent_kind, closed_kind, kind, unclosed_kind}
 use Rattle.mailmap_grammar.proofs.LineFeeds.{pieces-hold_no}
 use Rattle.mailmap_entries.proofs.Parts.{all_head, all_tail, all_append, all_apply, all_last, all_weaker}
-use Rattle.mailmap_snapshot.proofs.WhiteEnds.{trim-trim, HoldsNo-trim}
+use Rattle.mailmap_grammar.proofs.WhiteEnds.{trim-trim, HoldsNo-trim}
 use Rattle.std.specs.Option.{option_and_then}
 use Rattle.std.specs.Ordering.{eq_by_cmp}
 use Rattle.std.proofs.lemmas.List.{length-map, nil_from_length}

@@ -12,7 +12,7 @@ use Rattle.mailmap_grammar.proofs.Cut.{cut-absent, cut-cut_at_closing}
 use Rattle.mailmap_grammar.proofs.Plain.{first-white}
 use Rattle.mailmap_grammar.proofs.Trimmed.{begins-before}
 use Rattle.mailmap_entries.proofs.Parts.{all_append}
-use Rattle.mailmap_snapshot.proofs.WhiteEnds.{EndsWhite-ascii, trim-stays, trim-nil, trim-blank_start, trim-blank_end, BeginsWhite-trimmed}
+use Rattle.mailmap_grammar.proofs.WhiteEnds.{EndsWhite-ascii, trim-stays, trim-nil, trim-blank_start, trim-blank_end, BeginsWhite-trimmed}
 use Rattle.std.specs.List.{AllByRecursion}
 use Rattle.std.proofs.lemmas.List.Elements.{recursion_from_All}
 use Rattle.mailmap_grammar.proofs.LineFeeds.{pieces-line}

@@ -20,7 +20,7 @@ use Rattle.mailmap_suggestions.proofs.Appended.{affects, empty_or, folded_empty,
 use Rattle.mailmap_suggestions.proofs.Distinct.{◌∈◌, all_among, among_passing, at, each, each_pair, equal_bytes, filter_joined, from_filter, in_filter, no_part, same_bytes, somes, all_joined, all_of}
 use Rattle.mailmap_suggestions.proofs.Forms.{Each, all_by_frequency, all_named, from_by_frequency, none_named}
 use Rattle.mailmap_grammar.specs.Trimming.{trim}
-use Rattle.mailmap_snapshot.proofs.WhiteEnds.{trim-blank_start, HoldsNo-trim, trim-nil}
+use Rattle.mailmap_grammar.proofs.WhiteEnds.{trim-blank_start, HoldsNo-trim, trim-nil}
 use Rattle.mailmap_snapshot.proofs.WrittenLine.{body, reading-canonical_line, strict_reading-canonical_line, one_line}
 use Rattle.mailmap_suggestions.specs.SuggestedText.{entry_line, by_git, count_line, count_lines, entry_lines, group_text, reviewed_text, mark, suggested_text, text_by}
 use Rattle.std.specs.Fmt.{digits, digits_onto}

@@ -10,8 +10,8 @@ use Rattle.mailmap_grammar.proofs.Cut.{cut-absent, cut-cut_at_closing, cut-unclo
 use Rattle.mailmap_grammar.proofs.Grammar.{strict_reading-made, strict_reading-same}
 use Rattle.mailmap_grammar.proofs.Trimmed.{trim-whites_end, trim-whites_start, trimmed-made, trimmed-same}
 use Rattle.mailmap_findings.specs.Findings.{ignored}
-use Rattle.gix_mailmap.specs.IgnoredText.{ReadsWithoutIgnored}
-use Rattle.mailmap_snapshot.proofs.WhiteEnds.{BeginsWhite-trimmed, EndsWhite-ascii, trim-nil, trim-stays, trim-trim}
+use Rattle.mailmap_findings.specs.IgnoredText.{ReadsWithoutIgnored}
+use Rattle.mailmap_grammar.proofs.WhiteEnds.{BeginsWhite-trimmed, EndsWhite-ascii, trim-nil, trim-stays, trim-trim}
 
 -- ---- a line split into what counts and the rest
 
