@@ -1,5 +1,5 @@
-/* The proved calls that crates/gix_mailmap_c exports. No pointer may be NULL, and no two calls may use one handle at
- * the same time. A returned number is one of gix_mailmap_status, 6 if the handle is closed, or 7 if it is open already.
+/* The proved calls that crates/gix_mailmap_c exports. No pointer may be NULL, no call may get one handle twice, and no
+ * two calls may use one handle at the same time. A returned number is one of gix_mailmap_status, 6 if the handle is closed, or 7 if it is open already.
  * gix_mailmap.c never causes the last two. */
 #ifndef EXPORTS_H
 #define EXPORTS_H
@@ -18,8 +18,10 @@ struct gix_mailmap_stream {
 };
 
 uint32_t gix_mailmap_handle_open(gix_mailmap *map, const void *text, size_t text_len);
+uint32_t gix_mailmap_handle_copy(gix_mailmap *map, gix_mailmap *other);
 void gix_mailmap_handle_close(gix_mailmap *map);
 uint32_t gix_mailmap_handle_add(gix_mailmap *map, const void *text, size_t text_len);
+uint32_t gix_mailmap_handle_merge(gix_mailmap *map, gix_mailmap *other);
 uint32_t gix_mailmap_handle_add_entry(gix_mailmap *map, const void *new_name, size_t new_name_len,
                                       const void *new_email, size_t new_email_len, const void *old_name,
                                       size_t old_name_len, const void *old_email, size_t old_email_len);

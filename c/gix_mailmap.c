@@ -57,18 +57,39 @@ const char *gix_mailmap_status_text(gix_mailmap_status status)
     return "unknown status";
 }
 
-gix_mailmap_status gix_mailmap_open(gix_mailmap **map, const char *text, size_t text_len)
+/* A closed handle; NULL if there is no memory. */
+static gix_mailmap *closed_map(void)
 {
-    *map = malloc(sizeof **map);
-    if (*map == NULL)
-        return GIX_MAILMAP_OUT_OF_MEMORY;
-    **map = (gix_mailmap){NULL, false};
-    gix_mailmap_status status = gix_mailmap_handle_open(*map, text_at(text), text_len);
+    gix_mailmap *map = malloc(sizeof *map);
+    if (map != NULL)
+        *map = (gix_mailmap){NULL, false};
+    return map;
+}
+
+/* Frees a handle that couldn't be opened. */
+static gix_mailmap_status opened(gix_mailmap **map, gix_mailmap_status status)
+{
     if (status != GIX_MAILMAP_OK) {
         free(*map);
         *map = NULL;
     }
     return status;
+}
+
+gix_mailmap_status gix_mailmap_open(gix_mailmap **map, const char *text, size_t text_len)
+{
+    *map = closed_map();
+    if (*map == NULL)
+        return GIX_MAILMAP_OUT_OF_MEMORY;
+    return opened(map, gix_mailmap_handle_open(*map, text_at(text), text_len));
+}
+
+gix_mailmap_status gix_mailmap_copy(gix_mailmap **copy, const gix_mailmap *map)
+{
+    *copy = closed_map();
+    if (*copy == NULL)
+        return GIX_MAILMAP_OUT_OF_MEMORY;
+    return opened(copy, gix_mailmap_handle_copy(*copy, read_only(map)));
 }
 
 void gix_mailmap_close(gix_mailmap *map)
@@ -81,6 +102,12 @@ void gix_mailmap_close(gix_mailmap *map)
 gix_mailmap_status gix_mailmap_add(gix_mailmap *map, const char *text, size_t text_len)
 {
     return gix_mailmap_handle_add(map, text_at(text), text_len);
+}
+
+gix_mailmap_status gix_mailmap_merge(gix_mailmap *map, const gix_mailmap *other)
+{
+    /* A proved function must not get one handle twice, and its own entries change nothing. */
+    return map == other ? GIX_MAILMAP_OK : gix_mailmap_handle_merge(map, read_only(other));
 }
 
 gix_mailmap_status gix_mailmap_add_entry(gix_mailmap *map, const char *new_name, size_t new_name_len,

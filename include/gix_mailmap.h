@@ -156,6 +156,11 @@ const char *gix_mailmap_status_text(gix_mailmap_status status);
 gix_mailmap_status gix_mailmap_open(gix_mailmap **map, const char *text, size_t text_len)
     GIX_MAILMAP_NONNULL(1) GIX_MAILMAP_MUST_CHECK;
 
+/* Opens a mailmap that is equal to another one. It shares nothing with it.
+ * OK; OUT_OF_MEMORY: `*copy` is NULL. */
+gix_mailmap_status gix_mailmap_copy(gix_mailmap **copy, const gix_mailmap *map)
+    GIX_MAILMAP_NONNULL(1, 2) GIX_MAILMAP_MUST_CHECK;
+
 /* Frees a mailmap. NULL is allowed and does nothing. */
 void gix_mailmap_close(gix_mailmap *map);
 
@@ -166,6 +171,12 @@ void gix_mailmap_close(gix_mailmap *map);
  * OK; OUT_OF_MEMORY. */
 gix_mailmap_status gix_mailmap_add(gix_mailmap *map, const char *text, size_t text_len)
     GIX_MAILMAP_NONNULL(1) GIX_MAILMAP_MUST_CHECK;
+
+/* Adds the entries that another mailmap lists, as gix_mailmap_add does, and leaves that mailmap as it is. It is the way
+ * to put several mailmaps together that were read apart. A mailmap that is merged into itself stays as it is.
+ * OK; OUT_OF_MEMORY. */
+gix_mailmap_status gix_mailmap_merge(gix_mailmap *map, const gix_mailmap *other)
+    GIX_MAILMAP_NONNULL(1, 2) GIX_MAILMAP_MUST_CHECK;
 
 /* Adds one entry, as gix_mailmap_add does. Its texts are taken as they are, not read as a line. An empty new name, new
  * email or old name counts as missing.

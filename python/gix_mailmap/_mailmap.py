@@ -131,7 +131,7 @@ class Mailmap(_native.Mailmap[AnyStr], Sequence[Entry[AnyStr]]):
         return f"<{type(self).__name__}: {'closed' if self.closed else f'{len(self)} entries'}>"
 
     def __reduce__(self) -> NoReturn:
-        raise TypeError("a Mailmap can't be copied or pickled: make a new one of its write()")
+        raise TypeError("a Mailmap can't be pickled: make a new one of its write()")
 
     def __enter__(self) -> Self:
         len(self)  # raises Closed

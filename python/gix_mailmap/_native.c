@@ -325,6 +325,32 @@ static PyObject *mailmap_add(PyObject *self, PyObject *text)
     return add_text((Mailmap *)self, text, false) ? Py_NewRef(Py_None) : NULL;
 }
 
+static PyObject *mailmap_merge(PyObject *self, PyObject *from)
+{
+    Mailmap *mailmap = (Mailmap *)self, *other = (Mailmap *)from;
+    PyObject *class = find(MAILMAP);
+    int is_mailmap = class != NULL ? PyObject_IsInstance(from, class) : -1;
+    if (is_mailmap == 0)
+        PyErr_Format(PyExc_TypeError, "expected a Mailmap, not %R", (PyObject *)Py_TYPE(from));
+    bool ok = is_mailmap > 0 && is_kind(mailmap->is_str, &(Text){.is_str = other->is_str}) && is_open(mailmap) &&
+              is_open(other) && is_ok(gix_mailmap_merge(mailmap->map, other->map));
+    mailmap->changes += ok;
+    return ok ? Py_NewRef(Py_None) : NULL;
+}
+
+static PyObject *mailmap_copy(PyObject *self, PyObject *Py_UNUSED(none_or_memo))
+{
+    const Mailmap *mailmap = (Mailmap *)self;
+    PyObject *made = is_open(mailmap) ? mailmap_new(Py_TYPE(self), NULL, NULL) : NULL;
+    if (made == NULL)
+        return NULL;
+    Mailmap *copy = (Mailmap *)made;
+    copy->is_str = mailmap->is_str;
+    if (!is_ok(gix_mailmap_copy(&copy->map, mailmap->map)))
+        Py_CLEAR(made);
+    return made;
+}
+
 static int mailmap_init(PyObject *self, PyObject *texts, PyObject *Py_UNUSED(keywords))
 {
     Mailmap *mailmap = (Mailmap *)self, new = {.changes = 0};
@@ -497,6 +523,12 @@ static PyMethodDef mailmap_methods[] = {
     {"add_entry", mailmap_add_entry, METH_O,
      "add_entry($self, entry, /)\n--\n\nAdds one entry. Its texts aren't parsed. An empty text counts as missing, "
      "except\nan old email. Raises NotAnEntry and OutOfMemory."},
+    {"merge", mailmap_merge, METH_O,
+     "merge($self, other, /)\n--\n\nAdds the entries of another Mailmap after the existing ones. Raises OutOfMemory."},
+    {"copy", mailmap_copy, METH_NOARGS,
+     "copy($self, /)\n--\n\nAn equal Mailmap, which is open until it is closed itself. Raises OutOfMemory."},
+    {"__copy__", mailmap_copy, METH_NOARGS, NULL},
+    {"__deepcopy__", mailmap_copy, METH_O, NULL},
     {"write", mailmap_write, METH_NOARGS,
      "write($self, /)\n--\n\nThe mailmap as a text, with a line for each entry. Raises Unwritable and OutOfMemory."},
     {"entries", mailmap_entries, METH_NOARGS, "entries($self, /)\n--\n\nAll entries as they are now."},

@@ -510,6 +510,29 @@ static void entries(void)
     gix_mailmap_close(map);
 }
 
+static void copies_and_merges(void)
+{
+    gix_mailmap *map, *other, *copy;
+    WANT(gix_mailmap_open(&map, TEXT("Jane Doe <jane@x> <jd@y>")) == GIX_MAILMAP_OK);
+    WANT(gix_mailmap_open(&other, TEXT("JD <JD@y>\nNew <new@x> old <q@z>")) == GIX_MAILMAP_OK);
+    WANT(gix_mailmap_copy(&copy, map) == GIX_MAILMAP_OK);
+    WANT(gix_mailmap_merge(map, other) == GIX_MAILMAP_OK);
+    /* a later name replaces only the name, and the first spelling stays */
+    maps(map, "jd", "jd@y", "JD <jane@x>");
+    maps(map, "old", "q@z", "New <new@x>");
+    WANT(gix_mailmap_merge(map, map) == GIX_MAILMAP_OK);
+    maps(map, "jd", "jd@y", "JD <jane@x>");
+    /* the others are as they were, and a copy outlives what it was made of */
+    maps(other, "jd", "jd@y", "JD <JD@y>");
+    gix_mailmap_close(map);
+    maps(copy, "jd", "jd@y", "Jane Doe <jane@x>");
+    maps(copy, "old", "q@z", "old <q@z>");
+    WANT(gix_mailmap_merge(other, copy) == GIX_MAILMAP_OK);
+    maps(other, "jd", "jd@y", "Jane Doe <jane@x>");
+    gix_mailmap_close(copy);
+    gix_mailmap_close(other);
+}
+
 /* Reads all unread answers of a stream, with buffers of this length, to `to`. Returns the number of bytes. */
 static size_t read_all(gix_mailmap_stream *stream, size_t room, char *to)
 {
@@ -714,6 +737,14 @@ static int calls_once(void)
     buffer out = filled();
     WANT(is_done(gix_mailmap_write(map, out.bytes, 96, &needed), &needed, &out_of_memory));
     WANT(needed != 0 || holds(&out, ""));
+    gix_mailmap *copy;
+    gix_mailmap_status copied = gix_mailmap_copy(&copy, map);
+    WANT(is_done(copied, NULL, &out_of_memory) && (copy != NULL) == (copied == GIX_MAILMAP_OK));
+    gix_mailmap_status merged = copy != NULL ? gix_mailmap_merge(copy, map) : GIX_MAILMAP_OK;
+    WANT(is_done(merged, NULL, &out_of_memory));
+    if (copy != NULL)
+        maps(copy, "jd", "jd@y", "Jane Doe <jane@x>");
+    gix_mailmap_close(copy);
     long requests_before = requests;
     WANT(gix_mailmap_add(map, TEXT("plain")) == GIX_MAILMAP_OK);
     WANT(gix_mailmap_add_entry(map, NULL, 0, NULL, 0, TEXT("o"), TEXT("o@z")) == GIX_MAILMAP_NOT_AN_ENTRY);
@@ -776,8 +807,9 @@ static bool fails(long number)
 
 int main(void)
 {
-    void (*const parts[])(void) = {words,   check_and_compact, prune,   verify,  report,       explain,      unneeded,
-                                   suggest, changes,           entries, streams, long_streams, long_answers, nulls};
+    void (*const parts[])(void) = {words,   check_and_compact, prune,   verify,            report,
+                                   explain, unneeded,          suggest, changes,           entries,
+                                   streams, long_streams,      nulls,   copies_and_merges, long_answers};
     for (size_t i = 0; i < sizeof parts / sizeof parts[0]; i++) {
         parts[i]();
         WANT(blocks == 0);

@@ -405,6 +405,9 @@ class Handles(unittest.TestCase):
             lambda: mailmap.add(MAP),
             lambda: mailmap.add_entry(JOE),
             lambda: mailmap.map_contact(b"plain"),
+            lambda: mailmap.merge(Mailmap(MAP)),
+            lambda: Mailmap(MAP).merge(mailmap),
+            mailmap.copy,
             mailmap.write,
             mailmap.entries,
             lambda: len(mailmap),
@@ -420,13 +423,34 @@ class Handles(unittest.TestCase):
             with self.assertRaises(Closed):
                 call()
 
-    def test_no_copies(self):
+    def test_copies(self):
         with Mailmap(MAP) as mailmap:
+            for call in (copy.copy, copy.deepcopy, Mailmap.copy):
+                made = call(mailmap)
+                made.add(b"JD <jd@y>")
+                self.assertEqual(mailmap.lookup(b"jd", b"jd@y").name, b"Jane Doe")
+                self.assertEqual(made.lookup(b"jd", b"jd@y"), Answer(b"JD", b"jane@x", True, True))
+                self.assertEqual(list(made.map_contacts([b"jd <jd@y>"])), [b"JD <jane@x>"])
+            with self.assertRaisesRegex(TypeError, "can't be pickled"):
+                pickle.dumps(mailmap)
             for call in (copy.copy, copy.deepcopy, pickle.dumps):
-                with self.assertRaisesRegex(TypeError, "can't be copied or pickled"):
-                    call(mailmap)
                 with self.assertRaisesRegex(TypeError, "cannot pickle"):
                     call(mailmap.map_contacts([]))
+        self.assertEqual(made.lookup(b"jd", b"jd@y").name, b"JD")
+
+    def test_merge(self):
+        with Mailmap(MAP) as mailmap, Mailmap(b"JD <JD@y>\nNew <new@x> old <q@z>") as other:
+            mapped = mailmap.map_contacts([b"jd <jd@y>", b"jd <jd@y>"])
+            self.assertEqual(next(mapped), b"Jane Doe <jane@x>")
+            for _ in range(2):
+                mailmap.merge(other)
+                mailmap.merge(mailmap)
+            self.assertEqual(next(mapped), b"JD <jane@x>")
+            self.assertEqual(mailmap.lookup(b"old", b"q@z"), Answer(b"New", b"new@x", True, True))
+            self.assertEqual((len(mailmap), len(other)), (3, 2))
+            for wrong in (Mailmap("J <j@x>"), MAP, None):
+                with self.assertRaises(TypeError):
+                    mailmap.merge(wrong)
 
     def test_what_does_not_change_is_the_object_that_was_given(self):
         with Mailmap(b"Jane Doe <jane@x> <jd@y>\nJoe <joe@x>\n") as mailmap:

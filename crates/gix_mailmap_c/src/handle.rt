@@ -1,7 +1,8 @@
 //! The calls on a handle of a mailmap that open, extend, write and close it.
-ghost use Rattle.std.specs.Prelude.{◌≡◌, ◌⊎◌, Some, None, IfNone, IfSome, MatchOption, option_map};
+ghost use Rattle.std.specs.Prelude.{◌≡◌, ◌≢◌, ◌⊎◌, [], Some, None, IfNone, IfSome, MatchOption, OnErr, OnOk, option_map};
+ghost use Rattle.mailmap_entries.specs.Building.{IsMerged};
 ghost use Rattle.mailmap_entries.specs.Entries.{mapping_of};
-ghost use Rattle.mailmap_entries.specs.Semantics.{IsNormal};
+ghost use Rattle.mailmap_entries.specs.Semantics.{IsNormal, accepted};
 ghost use Rattle.mailmap_grammar.specs.Lines.{mappings_of};
 ghost use Rattle.gix_mailmap_c.specs.Handles.{content_of, entry_given, handle_listing};
 ghost use Rattle.gix_mailmap_c.specs.Handles.{Adds, AddsGiven, LeavesHandle, Opens, Writes};
@@ -16,7 +17,7 @@ use mailmap_entries::Entry;
 use mailmap_grammar::contacts::change_by_both;
 use mailmap_snapshot::Snapshot;
 use mailmap_snapshot::snapshot::{Source, WriteError};
-use std::alloc::Global;
+use std::alloc::{AllocError, Global};
 
 /// Opens a closed handle with the entries of `text`. Lines that can't be parsed are skipped.
 ///
@@ -32,6 +33,41 @@ pub extern "C" fn gix_mailmap_handle_open(alloc: Global, m: &mut Handle, text: &
         Ok(snapshot) => open(alloc, m, Content::Mailmap(snapshot)),
         Err(_) => OUT_OF_MEMORY,
     }
+}
+
+/// Opens a closed handle with a copy of another handle's mailmap.
+///
+/// Returns `OK`; `OUT_OF_MEMORY`; `OPEN` if the handle is open already; or `CLOSED` if the other one is closed. Unless it
+/// is `OK`, the handle is unchanged.
+#[unsafe(no_mangle)]
+pub extern "C" fn gix_mailmap_handle_copy(alloc: Global, m: &mut Handle, other: &mut Handle) -> u32
+    ensures unchanged { content_of other.new ≡ content_of other.old }
+    ensures copied { MatchOption (handle_listing other.old) (LeavesHandle 6 (content_of m.old) (content_of m.new) result)
+        (λ n. Opens Mailmap (λ copy. copy ≡ n) (content_of m.old) (content_of m.new) result) }
+{
+    held_in!(other, Mailmap(snapshot));
+    if is_open(m) {
+        return OPEN;
+    }
+    match snapshot.try_clone(alloc) {
+        Ok(copy) => open(alloc, m, Content::Mailmap(copy)),
+        Err(_) => OUT_OF_MEMORY,
+    }
+}
+
+/// Adds the entries that another handle's mailmap lists after those that the mailmap has.
+///
+/// Returns `OK`; `OUT_OF_MEMORY`; or `CLOSED` if one of the handles is closed. Unless it is `OK`, the mailmap is
+/// unchanged.
+#[unsafe(no_mangle)]
+pub extern "C" fn gix_mailmap_handle_merge(m: &mut Handle, other: &mut Handle) -> u32
+    ensures unchanged { content_of other.new ≡ content_of other.old }
+    ensures merged { MatchOption (handle_listing other.old) (LeavesHandle 6 (content_of m.old) (content_of m.new) result)
+        (λ added. MatchOption (handle_listing m.old) (LeavesHandle 6 (content_of m.old) (content_of m.new) result)
+        (λ n. Adds added n (content_of m.new) result)) }
+{
+    held_in!(other, Mailmap(added));
+    merge(m, added)
 }
 
 /// Adds the entries of `text` after those that the mailmap has.
@@ -132,6 +168,26 @@ pub(crate) fn close(alloc: Global, h: &mut Handle)
     } else {
         discard_closed(taken);
     }
+}
+
+// Adds the entries that a snapshot lists to a handle's mailmap, if that is open.
+fn merge(m: &mut Handle, added: &Snapshot) -> u32
+    ensures { MatchOption (handle_listing m.old) (LeavesHandle 6 (content_of m.old) (content_of m.new) result)
+        (λ n. Adds added.now n (content_of m.new) result) }
+{
+    held_in!(m, Mailmap(snapshot));
+    match merge_listing(snapshot, added) {
+        Ok(()) => OK,
+        Err(_) => OUT_OF_MEMORY,
+    }
+}
+
+fn merge_listing(snapshot: &mut Snapshot, added: &Snapshot) -> Result<(), AllocError>
+    ensures ok { OnOk result (IsMerged snapshot.old added.now snapshot.new) }
+    ensures err { OnErr result (snapshot.new ≡ snapshot.old) }
+    ensures out_of_memory { OnErr result (accepted added.now ≢ []) }
+{
+    snapshot.merge(added.iter())
 }
 
 // The entry of four texts, `None` if they make none.

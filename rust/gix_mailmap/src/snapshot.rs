@@ -189,7 +189,7 @@ impl Default for Snapshot {
 
 impl Clone for Snapshot {
     fn clone(&self) -> Self {
-        Self::new(self.iter())
+        Snapshot { map: self.map.copy(), listing: OnceLock::new() }
     }
 }
 

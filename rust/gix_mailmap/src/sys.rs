@@ -97,6 +97,7 @@ struct RawStream {
 extern "C" {
     fn gix_mailmap_version() -> *const c_char;
     fn gix_mailmap_open(map: *mut *mut RawMap, text: *const u8, text_len: usize) -> u32;
+    fn gix_mailmap_copy(copy: *mut *mut RawMap, map: *const RawMap) -> u32;
     fn gix_mailmap_close(map: *mut RawMap);
     fn gix_mailmap_add(map: *mut RawMap, text: *const u8, text_len: usize) -> u32;
     fn gix_mailmap_add_entry(
@@ -265,6 +266,13 @@ impl Map {
         // SAFETY: `map` may be written.
         checked(unsafe { gix_mailmap_open(&mut map, text.as_ptr(), text.len()) });
         Map(NonNull::new(map).unwrap_or_else(|| handle_alloc_error(Layout::new::<u8>())))
+    }
+
+    pub(crate) fn copy(&self) -> Self {
+        let mut copy = std::ptr::null_mut();
+        // SAFETY: `copy` may be written, and the mailmap is open, and nothing changes it meanwhile.
+        checked(unsafe { gix_mailmap_copy(&mut copy, self.0.as_ptr()) });
+        Map(NonNull::new(copy).unwrap_or_else(|| handle_alloc_error(Layout::new::<u8>())))
     }
 
     pub(crate) fn add(&mut self, text: &[u8]) {
