@@ -23,9 +23,9 @@ Explanations Prune Unneeded CountContacts Suggest OtherGitAnswers PushEntry Push
 IN_TURN = ["AheadOfNothing", "AfterNothing", "AfterAll"]
 # A refusal that no call reports is one of a collect, which retries with less. That happens in entries, verify, unneeded
 # and suggest, which list what they found, and in the merge that builds new tables of the existing entries and the new
-# ones, because it lists the entries. Two merges of a long name build the tables anew, by eight requests each, and
-# succeed without that.
-UNREPORTED = 26
+# ones, because it lists the entries. One is for less memory than a long batch has, which it then keeps. Two merges of a
+# long name build the tables anew, by seven requests each, and succeed without that.
+UNREPORTED = 25
 
 
 def fail(text):

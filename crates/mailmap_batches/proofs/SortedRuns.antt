@@ -1,8 +1,8 @@
 -- A batch that is sorted by prefix, and then within each run of entries with the same prefix: `run_sorted` is for the
--- loop of `sorted_runs`, `by_names` for `sort_run`, and `sorted_from` for `sorted`.
+-- loop of `sort_runs`, `by_names` for `sort_run`, and `sorted_from` for `sorted`.
 use Rattle.std.proofs.Common.{◌≡◌, ◌<◌, ◌≤◌, ◌-◌, ◌+◌, ℕ, true, false, List, [], ◌∷◌, ◌++◌}
 use Rattle.std.proofs.Common.{All, map, take, drop, get_or, length, Option, Ordering, Equal, Greater, refl, sym}
-use Rattle.std.proofs.Common.{ap, ap₂, subst, subst₂, ◌∙◌, arith, length-drop}
+use Rattle.std.proofs.Common.{ap, ap₂, append_assoc, subst, subst₂, ◌∙◌, arith, length-append, length-drop, length-take-le}
 use Rattle.std.specs.Cmp.{IsTotalOrder, tied_itself}
 use Rattle.std.specs.Cmp.Lexicographic.{nat_list_cmp_total}
 use Rattle.std.specs.Fn.{Called}
@@ -12,9 +12,9 @@ use Rattle.std.specs.List.Sorted.{IsStableByKey, ties}
 use Rattle.std.specs.Option.{option_cmp}
 use Rattle.std.specs.Ordering.{is_le, is_lt, nat_cmp, ordering_reverse, ordering_then}
 use Rattle.std.proofs.lemmas.Bool.Decides.{nat_tests}
-use Rattle.std.proofs.lemmas.List.{get_or-drop, get_or-take, length-take, map-append}
+use Rattle.std.proofs.lemmas.List.{get_or-drop, get_or-take, length-take, map-append, take_at}
 use Rattle.std.proofs.Math.Seq.{take-add}
-use borrow.Rule.Slice.PartMut.{mid_of}
+use borrow.Rule.Slice.PartMut.{Post-is, drop_put, mid_len, mid_of, post_of, put_mid, same_len_mid}
 use denote.Param.Members.{Mut}
 use denote.Ref.{Bor}
 use Rattle.std.proofs.lemmas.List.Elements.{All-from_get_or, All-head, All-tail, All-take, All-weaker, recursion_from_All}
@@ -127,24 +127,45 @@ rises_at xs e some le ascending rises i d i_lt =
     subst₂ IsNotBelow (sym (get_or-drop e xs j d)) (sym (get_or-take e xs i d i_in))
     (greater_key (get_or xs i d) (get_or xs (e + j) d) (omega (arith, lower, upper, rises d (omega arith)))))
 
--- the entries before an index are sorted, and none of the others is below one of them
-pub record IsSortedTo (e : ℕ) (xs ys : List IndexedEntry) : Type 0 where
-  pub sorted : IsSortedFrom (take e xs) ys
-  pub apart : All (IsAtMost (drop e xs)) (take e xs)
+-- the entries before an index are sorted in place, none of the others is below one of them, and the others are as they were
+pub record IsSortedTo (e : ℕ) (old new : List IndexedEntry) : Type 0 where
+  pub sorted : IsSortedFrom (take e old) (take e new)
+  pub apart : All (IsAtMost (drop e old)) (take e old)
+  pub others : drop e new ≡ drop e old
+  pub len : length new ≡ length old
+
+-- what is at an index from a on is the same in lists that are the same from there on
+get_or-others : (xs ys : List IndexedEntry) (a i : ℕ) (d : IndexedEntry) → drop a xs ≡ drop a ys → a ≤ i
+    → get_or xs i d ≡ get_or ys i d
+get_or-others xs ys a i d same le =
+    let at : a + (i - a) ≡ i = omega (arith, le) in
+    ap (λ k. get_or xs k d) (sym at) ∙ sym (get_or-drop a xs (i - a) d) ∙ ap (λ l. get_or l (i - a) d) same
+    ∙ get_or-drop a ys (i - a) d ∙ ap (λ k. get_or ys k d) at
 
 -- one more run is sorted, from the index a to e
-pub run_sorted : (xs ys run : List IndexedEntry) (a e : ℕ) → a < e → e ≤ length xs
-    → IsNonDecreasingBy email_prefix xs
-    → ((d : IndexedEntry) → e < length xs → email_prefix (get_or xs (e - 1) d) < email_prefix (get_or xs e d))
-    → IsSortedTo a xs ys → IsSortedFrom (mid_of a (e - a) xs) run → IsSortedTo e xs (ys ++ run)
-run_sorted xs ys run a e lt le ascending greater before sorted =
-    let mid = mid_of a (e - a) xs in
-    let parts : take a xs ++ mid ≡ take e xs = grind (arith, take-add a (e - a) xs) in
+pub run_sorted : (old new run : List IndexedEntry) (a e : ℕ) → a < e → e ≤ length new → length run ≡ e - a
+    → IsNonDecreasingBy email_prefix old
+    → ((d : IndexedEntry) → e < length new → email_prefix (get_or new (e - 1) d) < email_prefix (get_or new e d))
+    → IsSortedTo a old new → IsSortedFrom (mid_of a (e - a) new) run → IsSortedTo e old (put_mid a (e - a) new run)
+run_sorted old new run a e lt le count ascending greater before sorted =
+    let mid = mid_of a (e - a) old in
+    let le' : e ≤ length old = omega (arith, le, before.len) in
+    let parts : take a old ++ mid ≡ take e old = grind (arith, take-add a (e - a) old) in
+    let run_of : IsSortedFrom mid run = subst (λ l. IsSortedFrom (take (e - a) l) run) before.others sorted in
+    let le_a : a ≤ length new = omega (arith, lt, le) in
+    let some : length (take a new ++ run) ≡ e = omega (arith, length-append (take a new) run, length-take-le a new le_a, count, lt) in
+    let front : take a new ++ run ≡ take e (put_mid a (e - a) new run) =
+    sym (ap (take e) (sym (append_assoc (take a new) run (post_of a (e - a) new))) ∙ take_at (take a new ++ run) (post_of a (e - a) new) e some) in
     record {
-      sorted = subst (λ l. IsSortedFrom l (ys ++ run)) parts (sorted_joined (take a xs) mid ys run before.sorted sorted
-          (All-weaker (IsAtMost (drop a xs)) (IsAtMost mid)
-          (λ p. All-take (λ q. IsNotBelow q p) (e - a) (drop a xs)) (take a xs) before.apart));
-      apart = rises_at xs e (omega (arith, lt)) le ascending greater;
+      sorted = subst₂ IsSortedFrom parts front (sorted_joined (take a old) mid (take a new) run before.sorted run_of
+          (All-weaker (IsAtMost (drop a old)) (IsAtMost mid)
+          (λ p. All-take (λ q. IsNotBelow q p) (e - a) (drop a old)) (take a old) before.apart));
+      apart = rises_at old e (omega (arith, lt)) le' ascending (λ d lt'. subst₂ (λ x y. email_prefix x < email_prefix y)
+          (get_or-others new old a (e - 1) d before.others (omega (arith, lt))) (get_or-others new old a e d before.others (omega (arith, lt)))
+          (greater d (omega (arith, lt', before.len))));
+      others = drop_put a e new run (omega (arith, lt)) le count
+          ∙ sym (Post-is a e new (omega (arith, lt))) ∙ ap (drop (e - a)) before.others ∙ Post-is a e old (omega (arith, lt));
+      len = same_len_mid a (e - a) new run (count ∙ sym (mid_len a e new le)) ∙ before.len;
     }
 
 pub one_sorted : (xs : List IndexedEntry) → length xs ≡ 1 → IsSortedFrom xs xs
@@ -152,10 +173,12 @@ one_sorted [] e = absurd (omega (arith, e))
 one_sorted (x ∷ []) e = record { kept = kept (x ∷ []); ascending = (tt, tt) }
 one_sorted (x ∷ y ∷ xs) e = absurd (omega (arith, e))
 
-pub none_sorted : (xs : List IndexedEntry) → IsSortedTo 0 xs []
+pub none_sorted : (xs : List IndexedEntry) → IsSortedTo 0 xs xs
 none_sorted xs = record {
   sorted = record { kept = kept []; ascending = tt };
   apart = λ i d lt. absurd (omega arith);
+  others = refl;
+  len = refl;
 }
 
 -- ---- the entries of one email, by name

@@ -3,7 +3,7 @@
 //! First the entries are sorted by the prefixes of their emails, unless these ascend already, as in a mailmap that is
 //! sorted by email. A prefix is the first sixteen bytes of a text as a number, as `key_prefix` makes it. Emails whose
 //! prefixes differ are in the order of these, so only a run of entries with the same prefix is then compared by texts.
-ghost use Rattle.std.specs.Prelude.{◌≡◌, ◌<◌, ◌≤◌, ◌-◌, IfOk, OnOk, length, map, slice_index_or};
+ghost use Rattle.std.specs.Prelude.{◌≡◌, ◌<◌, ◌≤◌, ◌-◌, [], IfOk, OnOk, length, map, slice_index_or};
 ghost use Rattle.std.specs.Option.{option_cmp, option_copied, option_map};
 ghost use Rattle.std.specs.List.{enumerate_from};
 ghost use Rattle.std.specs.List.Sorted.{IsNonDecreasingBy};
@@ -27,8 +27,10 @@ pub fn sorted<'e, 'a, T: HasEntry<'a>>(
 ) -> Result<Vec<IndexedEntry<'e, 'a>>, AllocError>
     ensures { IfOk result (λ batch. IsSorted (map T.mapping entries.now) (map indexed_mapping batch.items)) }
 {
-    let batch = sorted_by_prefix(indexed(alloc, entries)?)?;
-    sorted_runs(alloc, &batch)
+    // before the sort frees its buffer: what glibc allocates after that goes back to the system only as a whole
+    let sorted = Vec::with_capacity(alloc, entries.len())?;
+    let mut batch = sorted_by_prefix(indexed(alloc, entries)?)?;
+    sorted_runs(alloc, &mut batch, sorted)
 }
 
 fn indexed<'e, 'a, T: HasEntry<'a>>(
@@ -65,27 +67,34 @@ fn sorted_by_prefix<'e, 'a>(
     Ok(batch)
 }
 
-// Sorts entries by key that are in the order of their prefixes already, run by run.
+// Sorts entries by key that are in the order of their prefixes already, and copies them. No contract says what a vector
+// has after a slice of it was changed, if its elements borrow.
 fn sorted_runs<'e, 'a>(
     alloc: Global,
-    entries: &[IndexedEntry<'e, 'a>],
+    batch: &mut [IndexedEntry<'e, 'a>],
+    mut sorted: Vec<IndexedEntry<'e, 'a>>,
 ) -> Result<Vec<IndexedEntry<'e, 'a>>, AllocError>
-    requires { IsNonDecreasingBy email_prefix entries.now }
-    ensures { IfOk result (λ batch. IsSortedFrom entries.now batch.items) }
+    requires ascending { IsNonDecreasingBy email_prefix batch.old }
+    requires empty { sorted.items ≡ [] }
+    ensures { IfOk result (λ made. IsSortedFrom batch.old made.items) }
 {
-    let mut batch = Vec::with_capacity(alloc, entries.len())?;
-    let mut run = Vec::new(alloc);
+    sort_runs(alloc, batch)?;
+    sorted.extend_from_slice(batch)?;
+    Ok(sorted)
+}
+
+// Sorts them in place, run by run.
+fn sort_runs(alloc: Global, batch: &mut [IndexedEntry<'_, '_>]) -> Result<(), AllocError>
+    requires { IsNonDecreasingBy email_prefix batch.old }
+    ensures { OnOk result (IsSortedFrom batch.old batch.new) }
+{
     let mut start = 0;
-    while start < entries.len() {
-        let end = run_end(entries, start);
-        run.clear();
-        run.extend_from_slice(&entries[start..end])?;
-        sort_name_prefixes(&mut run)?;
-        sort_run(&mut run)?;
-        batch.extend_from_slice(&run)?;
+    while start < batch.len() {
+        let end = run_end(batch, start);
+        sort_run(alloc, &mut batch[start..end])?;
         start = end;
     }
-    Ok(batch)
+    Ok(())
 }
 
 // The index after the run of entries with the prefix of the entry at an index. As prefixes ascend, none is smaller.
@@ -123,13 +132,13 @@ fn at<T>(entries: &[T], index: usize) -> &T
 const FEW: usize = 20;
 
 // Sorts many entries by the prefixes of their old names, so that few texts are compared after it.
-fn sort_name_prefixes(run: &mut Vec<IndexedEntry>) -> Result<(), AllocError>
-    ensures { KeepsOrder run.old.items run.new.items }
+fn sort_name_prefixes(alloc: Global, run: &mut [IndexedEntry<'_, '_>]) -> Result<(), AllocError>
+    ensures { KeepsOrder run.old run.new }
 {
     if run.len() <= FEW {
         return Ok(());
     }
-    run.sort_by_cached_key(name_prefix)
+    run.sort_by_cached_key(alloc, name_prefix)
 }
 
 // The prefix of an old name, 0 if there is none.
@@ -141,17 +150,18 @@ fn name_prefix(indexed: &IndexedEntry) -> u128
 }
 
 // Sorts entries by key. If all have the same email, as most with the same prefix do, only their names are compared.
-fn sort_run(run: &mut Vec<IndexedEntry>) -> Result<(), AllocError>
-    requires { 0 < length run.old.items }
-    ensures { OnOk result (IsSortedFrom run.old.items run.new.items) }
+fn sort_run(alloc: Global, run: &mut [IndexedEntry<'_, '_>]) -> Result<(), AllocError>
+    requires { 0 < length run.old }
+    ensures { OnOk result (IsSortedFrom run.old run.new) }
 {
     if run.len() == 1 {
         return Ok(());
     }
+    sort_name_prefixes(alloc, run)?;
     if email_group_len(run) == run.len() {
-        return run.sort_by(compare_old_names);
+        return run.sort_by(alloc, compare_old_names);
     }
-    run.sort_by(compare_keys)
+    run.sort_by(alloc, compare_keys)
 }
 
 // Compares keys: the old emails, then the old names.

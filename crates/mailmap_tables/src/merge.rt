@@ -1,6 +1,6 @@
 //! Merges entries into tables.
 ghost use Rattle.std.specs.Prelude.{◌≡◌, ◌≢◌, ◌++◌, ◌∷◌, [], All, List, IfOk, None, OnErr, OnOk, length, map};
-ghost use Rattle.std.specs.Prelude.{◌<◌, ◌≤◌, take, true};
+ghost use Rattle.std.specs.Prelude.{◌<◌, ◌≤◌, drop, take, true};
 ghost use Rattle.std.specs.Iterator.{IsFinite, Drains, Yields};
 ghost use Rattle.mailmap_entries.specs.Alike.{Alike};
 ghost use Rattle.mailmap_entries.specs.Entries.{mapping_of};
@@ -156,21 +156,39 @@ fn listed(alloc: Global, tables: &Tables) -> Result<Vec<Entry<'_>>, AllocError>
     Iter::new(tables.view()).collect(alloc)
 }
 
-// Tables of these entries.
+// Tables of these entries. The batch is freed while its entries are put, since the tables take as much memory.
 fn built(alloc: Global, entries: &[Entry<'_>]) -> Result<Tables, AllocError>
     requires { AreAccepted (map mapping_of entries.now) }
     ensures { IfOk result (λ made. Represent (map mapping_of entries.now) made.groups) }
 {
-    let batch = sorted(alloc, entries)?;
+    let mut batch = sorted(alloc, entries)?;
     let mut tables = Tables::with_capacity(alloc, batch.len(), texts_len(entries))?;
-    let mut left = batch.as_slice();
-    while !left.is_empty() {
+    let mut start = 0;
+    while start < batch.len() {
+        let left = &batch[start..];
         let len = email_group_len(left);
-        let (group, rest) = (&left[..len], &left[len..]);
+        let group = &left[..len];
         put_group(&mut tables, earliest(group).email(), group)?;
-        left = rest;
+        start = free_first(&mut batch, start + len);
     }
     Ok(tables.as_newly_built())
+}
+
+// Frees so many entries at the front once they are more than half of the batch, so that fewer are moved than it had at
+// first. Returns where the others begin.
+fn free_first(batch: &mut Vec<IndexedEntry<'_, '_>>, count: usize) -> usize
+    requires { count ≤ length batch.old.items }
+    ensures within { result ≤ length batch.new.items }
+    ensures others { drop result batch.new.items ≡ drop count batch.old.items }
+{
+    let len = batch.len() - count;
+    if count <= len {
+        return count;
+    }
+    batch.copy_within(count.., 0);
+    batch.truncate(len);
+    batch.shrink_to_fit();
+    0
 }
 
 // The number of bytes in the texts of entries, at most `usize::MAX`.

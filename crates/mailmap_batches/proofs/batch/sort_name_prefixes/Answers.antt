@@ -7,8 +7,8 @@ use Rattle.mailmap_batches.specs.Batches.{name_prefix}
 use Rattle.mailmap_batches.proofs.SortedRuns.{kept, kept_by}
 use Rattle.mailmap_batches.proofs.batch.sort_name_prefixes.Goals as goal
 
-pub returns-then-len-le-FEW : goal.returns-then-len-le-FEW
-returns-then-len-le-FEW c = kept c.args.run.now.items
+pub returns-then-run-le-FEW : goal.returns-then-run-le-FEW
+returns-then-run-le-FEW c = kept c.args.run.now
 
 pub returns : goal.returns
 returns c = kept_by nat_cmp_total name_prefix (λ p q e. ap (λ (j : Key). key_prefix 16 (unwrap_or j.1 [])) e) _ _

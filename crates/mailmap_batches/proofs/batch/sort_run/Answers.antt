@@ -6,25 +6,24 @@ use Rattle.mailmap_entries.proofs.Keys.{keys_total}
 use Rattle.mailmap_entries.proofs.Results.{on_ok_then}
 use Rattle.mailmap_batches.specs.Batches.{folded_email_at, key_at}
 use Rattle.mailmap_batches.specs.declared.indexed.IndexedEntry.{IndexedEntry}
-use Rattle.mailmap_batches.proofs.SortedRuns.{ascending_by_key, by_names, name_at, one_sorted, sorted_by}
+use Rattle.mailmap_batches.proofs.SortedRuns.{ascending_by_key, by_names, kept_then, name_at, one_sorted, sorted_by}
 use Rattle.mailmap_batches.proofs.batch.sort_run.Goals as goal
 
-pub returns-then-len-eq1 : goal.returns-then-len-eq1
-returns-then-len-eq1 c =
-    one_sorted c.args.run.now.items (omega (arith, c.len.ensures, c.if-len-eq1.true, c.args.run.now.ok.0))
+pub returns-then-run-eq1 : goal.returns-then-run-eq1
+returns-then-run-eq1 c = one_sorted c.args.run.now (omega arith)
 
-pub returns-then-email_group_len-len : goal.returns-then-email_group_len-len
-returns-then-email_group_len-len c =
-    let old = c.args.run.now.items in
-    let new = c.sort_by.new.self.items in
+pub returns-then-email_group_len-run : goal.returns-then-email_group_len-run
+returns-then-email_group_len-run c =
+    let old = c.sort_name_prefixes.new.run in
+    let new = c.sort_by.new.self in
     let moved = c.sort_by.ensures.permutation in
     let all : (d : IndexedEntry) → All (λ p. folded_email_at p ≡ folded_email_at (get_or old 0 d)) old =
-    rw (take_all c.email_group_len.result c.deref.result.now (omega arith), c.deref.ensures.value) at c.email_group_len.ensures.same in
+    rw (take_all c.email_group_len.result old (omega arith)) at c.email_group_len.ensures.same in
     on_ok_then c.sort_by.result _ _ (λ sorted.
     let by = sorted_by (options_total nat_list_cmp_total) name_at (λ p q e. ap (λ k. k.1) e) old new moved
     c.sort_by.ensures.stable sorted (λ f a r f' k. search rules) in
     record {
-      kept = by.0;
+      kept = kept_then c.sort_name_prefixes.ensures by.0;
       ascending = ascending_by_key new (by_names (λ d. get_or old 0 d) new (λ d. All-permutation (λ p. folded_email_at p ≡ folded_email_at (get_or old 0 d)) old new moved (all d)) by.1);
     }) c.sort_by.ensures.sorted
 
@@ -32,4 +31,5 @@ pub returns : goal.returns
 returns c =
     on_ok_then c.sort_by-2.result _ _ (λ sorted.
     let by = sorted_by keys_total key_at (λ p q e. e) _ _ c.sort_by-2.ensures.permutation c.sort_by-2.ensures.stable sorted
-    (λ f a r f' k. search rules) in record { kept = by.0; ascending = ascending_by_key _ by.1 }) c.sort_by-2.ensures.sorted
+    (λ f a r f' k. search rules) in
+    record { kept = kept_then c.sort_name_prefixes.ensures by.0; ascending = ascending_by_key _ by.1 }) c.sort_by-2.ensures.sorted

@@ -1,38 +1,57 @@
-use Rattle.std.proofs.Common.{◌≡◌, ◌<◌, [], map, length, arith}
-use Rattle.std.proofs.lemmas.Grind.{common_steps}
-use Rattle.std.proofs.lemmas.List.{nil_from_length, take_rest}
+use Rattle.std.proofs.Common.{◌≡◌, ◌∙◌, ◌+◌, ◌-◌, ◌<◌, [], List, ap, arith, drop, length, length-drop, map, subst, sym, take}
+use Rattle.std.proofs.lemmas.List.{drop-drop, drop_all, take_rest}
 use Rattle.mailmap_entries.specs.Entries.{mapping_of}
-use Rattle.mailmap_batches.specs.Batches.{IsSorted, indexed_mapping}
-use Rattle.mailmap_tables.proofs.Built.{built_end, built_start, built_step, group_good}
+use Rattle.mailmap_batches.specs.declared.indexed.IndexedEntry.{IndexedEntry}
+use Rattle.mailmap_tables.proofs.Built.{AreBuilt, built_end, built_start, built_step, group_good}
 use Rattle.mailmap_tables.proofs.merge.built.Goals as goal
 
-pub loop-left-init : goal.loop-left-init
-loop-left-init c =
-    let xs = map mapping_of c.args.entries.now in
-    let b = c.as_slice-left.result.now in
-    let sorted : IsSorted xs (map indexed_mapping b) = rw c.as_slice-left.ensures.value c.in_ok-batch.ensures in
-    rw c.in_ok-tables.ensures (built_start c.requires sorted)
+pub loop-start-init : goal.loop-start-init
+loop-start-init c = record {
+  within = omega arith;
+  built = rw c.in_ok-tables.ensures (built_start c.requires c.in_ok-batch.ensures);
+}
 
 pub put_group-requires-clause-accepted : goal.put_group-requires-clause-accepted
-put_group-requires-clause-accepted c = group_good c.email_group_len-len.result c.loop-left.invariant
+put_group-requires-clause-accepted c =
+    let start = c.loop-start.start in
+    let all = c.deref.result.now in
+    let is : take (length all - start) (drop start all) ≡ drop start c.loop-start.batch.items =
+    take_rest all start ∙ ap (drop start) c.deref.ensures.value in
+    group_good c.email_group_len-len.result (subst (λ (l : List IndexedEntry). AreBuilt (map mapping_of c.args.entries.now) c.in_ok-batch.batch.items l c.loop-start.tables.groups) (sym is) c.loop-start.invariant.built)
 
-pub loop-left-preserved : goal.loop-left-preserved
-loop-left-preserved c =
-    let xs = map mapping_of c.args.entries.now in
-    let b = c.as_slice-left.result.now in
-    let sorted : IsSorted xs (map indexed_mapping b) = rw c.as_slice-left.ensures.value c.in_ok-batch.ensures in
-    let left = c.loop-left.left.now in
+pub loop-start-preserved : goal.loop-start-preserved
+loop-start-preserved c =
+    let start = c.loop-start.start in
+    let items = c.loop-start.batch.items in
+    let all = c.deref.result.now in
+    let left = take (length all - start) (drop start all) in
+    let is : left ≡ drop start items = take_rest all start ∙ ap (drop start) c.deref.ensures.value in
     let len = c.email_group_len-len.result in
     let group = c.email_group_len-len.ensures in
     let some : 0 < length left = omega (arith, group.some, group.within) in
-    rw (take_rest left len)
-    (built_step c.requires sorted len c.earliest.result c.loop-left.invariant some group.same group.other
-    c.earliest.ensures.among c.earliest.ensures.least (rw c.email.ensures at c.in_ok-put_group.ensures))
+    let built = subst (λ (l : List IndexedEntry). AreBuilt (map mapping_of c.args.entries.now) c.in_ok-batch.batch.items l c.loop-start.tables.groups) (sym is) c.loop-start.invariant.built in
+    let step = built_step c.requires c.in_ok-batch.ensures len c.earliest.result built some group.same group.other
+    c.earliest.ensures.among c.earliest.ensures.least (rw c.email.ensures at c.in_ok-put_group.ensures) in
+    record {
+      within = c.free_first-start.ensures.within;
+      built = rw (c.free_first-start.ensures.others, ← drop-drop len start items, ← is) step;
+    }
+
+pub loop-start-smaller : goal.loop-start-smaller
+loop-start-smaller c =
+    let start = c.loop-start.start in
+    let items = c.loop-start.batch.items in
+    let len = c.email_group_len-len.result in
+    omega (
+      arith,
+      ap length c.free_first-start.ensures.others,
+      length-drop c.free_first-start.result c.free_first-start.new.batch.items,
+      length-drop (start + len) items,
+      c.email_group_len-len.ensures.some,
+      c.free_first-start.ensures.within,
+    )
 
 pub returns : goal.returns
 returns c =
-    let xs = map mapping_of c.args.entries.now in
-    let b = c.as_slice-left.result.now in
-    let sorted : IsSorted xs (map indexed_mapping b) = rw c.as_slice-left.ensures.value c.in_ok-batch.ensures in
-    let none : c.loop-left.left.now ≡ [] = nil_from_length _ (grind (arith, common_steps)) in
-    rw c.as_newly_built.ensures (built_end c.requires sorted (rw none at c.loop-left.invariant))
+    let none : drop c.loop-start.start c.loop-start.batch.items ≡ [] = drop_all c.loop-start.start c.loop-start.batch.items (omega arith) in
+    rw c.as_newly_built.ensures (built_end c.requires c.in_ok-batch.ensures (rw none at c.loop-start.invariant.built))
