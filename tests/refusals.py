@@ -44,6 +44,8 @@ class Mode(NamedTuple):
     printed: bytes
     # whether lines are written before all is known
     is_written_early: bool = False
+    # what is said of a run that succeeds
+    said: bytes = b""
 
 
 CHECK, VERIFY, SHORTLOG = "mailmap_check", "mailmap_verify", "mailmap_shortlog"
@@ -65,7 +67,8 @@ MODES = [
     Mode(VERIFY, ["--suggest", "-"], ["mailmap"], "alike", 0,
          b"# 1 bob <b@example.com>\n# 1 BOB <B@example.com>\nbob <b@example.com> <b@example.com>\n\n"
          b"# 2 bob <b@example.com>\n# 1 bob <bob@example.com>\n#?bob <b@example.com> <bob@example.com>\n\n", True),
-    Mode(SHORTLOG, ["-ne"], ["mailmap"], "contacts", 0, b"     1\tJoe R. Developer <joe@example.com>\n"),
+    Mode(SHORTLOG, ["-ne"], ["mailmap"], "contacts", 0, b"     1\tJoe R. Developer <joe@example.com>\n", True,
+         b"mailmap_shortlog: lines without a contact: 1; the first is line 2\n"),
 ]
 passed = failed = 0
 
@@ -83,7 +86,7 @@ def refuse(refusing, mode, program, files):
     global passed, failed
     words, refusals = [*mode.before, *files, *mode.after], 0
     for result, was_refused in refusing.runs([program, *words], FILES[mode.stdin]):
-        is_whole = result == (mode.status, mode.printed, b"")
+        is_whole = result == (mode.status, mode.printed, mode.said)
         if is_whole or (was_refused and is_refusal(mode, result)):
             refusals += not is_whole
             passed += was_refused

@@ -75,7 +75,7 @@ Jane Doe <jane@example.com>
 Eve <eve@example.com>
 not a contact'
     same mailmap_check "$("$1/mailmap_check" "$top/sample/mailmap" < "$top/sample/contacts")" "$wanted"
-    found="$(echo 'Jane Doe <jane@example.com> jd' | "$1/mailmap_verify" || [ $? = 1 ])"
+    found="$(echo 'Jane Doe <jane@example.com> jd' | "$1/mailmap_verify" - || [ $? = 1 ])"
     same mailmap_verify "$found" '<stdin>:1: warning: ignored text: jd (an old name needs an email after it) [ignored-text]'
     found="$("$1/mailmap_shortlog" -n "$top/sample/mailmap" < "$top/sample/contacts")"
     same mailmap_shortlog "$found" $'     2\tJane Doe\n     2\tJoe R. Developer\n     1\tEve'

@@ -42,6 +42,7 @@ MIXED = [number * 7_919 % DIFFERENT for number in range(DIFFERENT)]
 COMING = [*MIXED, *reversed(MIXED), *range(DIFFERENT)]
 LAST = b"x"
 NOTE = b"contacts:%d: note: %b (3) has the name of %b (3) [same-name]"
+SKIPPED = b"mailmap_shortlog: lines without a contact: %d; the first is line %d\n"
 
 
 def joined(lines):
@@ -104,7 +105,7 @@ def many_contacts():
     for words in [], ["-n", "-e"]:
         texts = ANSWERS if "-e" in words else names
         wants(f"many contacts, mailmap_shortlog {words}", run(SHORTLOG, [*words, "map"], input=text), 0,
-              counted(words, (texts[number] for number in COMING)))
+              counted(words, (texts[number] for number in COMING)), SKIPPED % (1, len(COMING) + 1))
     return (f"{len(COMING):,} lines of {DIFFERENT:,} contacts that differ, and a last line of one byte: "
             "each program prints what follows from how the lines were made")
 
@@ -165,13 +166,15 @@ def nothing_of_many():
     lines = ROUNDS * DIFFERENT
     for program, words, text in [
         (CHECK, ["--compact"], b"# Jane <jane@x>\n" * lines),
-        (VERIFY, [], b"# Jane <jane@x>\n" * lines),
+        (VERIFY, ["-"], b"# Jane <jane@x>\n" * lines),
         (VERIFY, ["--explain", "map"], b" \r\n" * lines),
         (VERIFY, ["--contacts", "-"], b"Jane <jane@x>\n" * lines),
         (VERIFY, ["--suggest", "-"], b"Jane <jane@x>\n" * lines),
-        (SHORTLOG, ["-ne", "map"], b"Jane jane@x\n" * lines),
+        (SHORTLOG, ["-ne", "map"], b" \t\n" * lines),
     ]:
         wants(f"{lines} lines and no output, {program} {words}", run(program, words, input=text), 0, b"")
+    wants(f"{lines} lines without a contact", run(SHORTLOG, ["-ne", "map"], input=b"Jane jane@x\n" * lines), 0, b"",
+          SKIPPED % (lines, 1))
     return f"{lines:,} lines that leave nothing to write: no program prints anything"
 
 

@@ -66,10 +66,10 @@ def terminal():
     for way in WAYS:
         ours, theirs = os.openpty()
         os.write(ours, typed)
-        wants(f"a terminal, {way}", run(way.program, way.words, stdin=theirs), *way.wanted(text))
+        wants(f"a terminal, {way}", run(way.program, way.words, stdin=theirs), *way.noted(text))
         os.close(theirs)
         os.close(ours)
-    return f"a terminal, in {len(WAYS)} ways: all is read to its end, and nothing after it"
+    return f"a terminal, in {len(WAYS)} ways: what is read is said, and all is read to its end, and nothing after it"
 
 
 def without_input():
@@ -144,15 +144,15 @@ def nothing_to_write():
         (CHECK, ["mailmap"], b""),
         (CHECK, ["--compact"], b"# Jane <jane@x>\nplain\n"),
         (CHECK, ["--compact", "empty"], b""),
-        (VERIFY, [], MAILMAP),
+        (VERIFY, ["-"], MAILMAP),
         (VERIFY, ["--prune", "empty"], b""),
-        (VERIFY, ["--prune"], b""),
+        (VERIFY, ["--prune", "-"], b""),
         (VERIFY, ["--explain", "mailmap"], b"\n \t\r\n"),
         (VERIFY, ["--contacts", "-", "empty"], b"\n" + CONTACTS),
         (VERIFY, ["--contacts", "-", "-S", "error", "empty"], b"jane <a@x>\nJane <a@x>\n"),
         (VERIFY, ["--suggest", "-", "empty"], b"plain\n" + CONTACTS),
-        (VERIFY, ["-e", "no-email"], b"plain\n"),
-        (SHORTLOG, ["mailmap"], b"plain\n\n"),
+        (VERIFY, ["-e", "no-email", "-"], b"plain\n"),
+        (SHORTLOG, ["mailmap"], b"\n \t\n"),
     ]:
         for full in "> /dev/full", ">&-":
             wants(f"nothing to write, {program} {words} {full}",

@@ -2,6 +2,7 @@
 from pathlib import Path
 
 from runs import wants
+from shortlog import skipped
 from ways import CHECK, SHORTLOG, VERIFY, VERSION, run, said
 
 FILES = {"one": b"1", "none": b"", "mapped": b"M <m@y> <a@x>\n", "cased": b"N <N@x>\n"}
@@ -22,7 +23,8 @@ TASKS = [
     (CHECK, "--compact mapped three", SPLIT, 2, b"cannot read file 2"),
     (CHECK, "mapped --compact", SPLIT, 2, b"cannot read file 2"),
     (VERIFY, "three --version -h", b"", 0, b"mailmap_verify " + VERSION),
-    (VERIFY, "", b"plain", 1, b"<stdin>" + NO_EMAIL),
+    (VERIFY, "-", b"plain", 1, b"<stdin>" + NO_EMAIL),
+    (VERIFY, "", b"plain", 2, b".mailmap: No such file or directory"),
     (VERIFY, "-- -", b"N <a@x>\nN <a@x>\n", 1,
      b"<stdin>:1: warning: no effect: <stdin>:2 says the same [no-effect]\n"),
     (VERIFY, "mapped -S note", b"plain", 0, b""),
@@ -30,7 +32,8 @@ TASKS = [
     (VERIFY, "one -e no-email", b"plain", 0, b""),
     (VERIFY, "one -", b"", 2, b"-: No such file or directory"),
     (VERIFY, "-- --prune", b"", 2, b"--prune: No such file or directory"),
-    (VERIFY, "--prune", b"N <a@x>\nN <a@x>\n", 0, b"N <a@x>\n"),
+    (VERIFY, "--prune -", b"N <a@x>\nN <a@x>\n", 0, b"N <a@x>\n"),
+    (VERIFY, "--prune", b"", 2, b".mailmap: No such file or directory"),
     (VERIFY, "one --prune", b"plain", 0, b"1"),
     (VERIFY, "--prune three", b"", 2, MISSING),
     (VERIFY, "--explain one mapped", CONTACTS, 0,
@@ -75,6 +78,44 @@ TASKS = [
     (SHORTLOG, "mapped -h", COUNTED, 2, b"-h: No such file or directory"),
     (SHORTLOG, "--version -h", COUNTED, 0, b"mailmap_shortlog " + VERSION),
 ]
+# Without a file, the mailmap is .mailmap, if it is there.
+DEFAULT = [
+    (VERIFY, "", b"", 1, b".mailmap" + NO_EMAIL),
+    (VERIFY, "--", b"", 1, b".mailmap" + NO_EMAIL),
+    (VERIFY, "--prune", b"", 0, b"plain\nM <m@y> <a@x>\n"),
+    (VERIFY, "--explain", b"b <A@x>", 0, b"b <A@x> is not mapped\n"),
+    (VERIFY, "--contacts -", b"b <A@x>\n", 1, b".mailmap" + NO_EMAIL),
+    (VERIFY, "--contacts=contact", b"", 1, b".mailmap" + NO_EMAIL),
+    (VERIFY, "--contacts contact -", b"M <m@y> <a@x>\n", 0, b""),
+    (VERIFY, "--suggest -", b"b <A@x>\nB <M@y>\n", 0, b"# 1 M <m@y>\n# 1 B <M@y>\nM <m@y> <M@y>\n\n"),
+    (SHORTLOG, "", b"b <A@x>\n", 0, b"     1\tM\n"),
+    (SHORTLOG, "-ne --", b"b <A@x>\n", 0, b"     1\tM <m@y>\n"),
+    (SHORTLOG, "none", b"b <A@x>\n", 0, b"     1\tb\n"),
+]
+# Whether contacts that begin like this are git log's own format.
+HASH, LONG_HASH = b"0123456789abcdefABCDEF" + b"0" * 18, b"9" * 64
+GIT_LOG = [
+    (b"commit " + HASH + b"\nAuthor: Jane <jane@x>\n", True),
+    (b"commit " + HASH, True),
+    (b"commit " + HASH + b"\r\n", True),
+    (b"commit " + LONG_HASH + b"\n", True),
+    (b"commit " + HASH + b" (HEAD -> main, tag: v1 <a@x>)\n", True),
+    (b"commit " + LONG_HASH + b" " * 100_000 + b"\n", True),
+    (b"commit " + HASH + b"\0", False),
+    (b"commit " + HASH[1:] + b"\n", False),
+    (b"commit " + HASH + b"0\n", False),
+    (b"commit " + LONG_HASH + b"0\n", False),
+    (b"commit " + b"g" * 40 + b"\n", False),
+    (b"commit  " + HASH + b"\n", False),
+    (b"Commit " + HASH + b"\n", False),
+    (b" commit " + HASH + b"\n", False),
+    (b"commit\n" + HASH + b"\n", False),
+    (b"commit <a@x>\n", False),
+    (b"commi", False),
+    (b"\ncommit " + HASH + b"\n", False),
+    (b"", False),
+]
+NOT_CONTACTS = b"the contacts are git log's own format: use git log --format='%an <%ae>'"
 # Control characters and those that turn the direction of text are escaped. Those beside them are as they are, and so are
 # all other characters and bytes that aren't UTF-8.
 SHOWN = [
@@ -120,10 +161,36 @@ GIT_READS = [
 
 
 def wants_git_reading(line, reading):
-    status, printed, message = run(VERIFY, [], input=line)
+    status, printed, message = run(VERIFY, ["-"], input=line)
     found = b"".join(text for text in printed.splitlines(True) if text.endswith(b" [git-reads]\n"))
     expected = b"<stdin>:1: warning: git reads %b [git-reads]\n" % reading if reading else b""
     wants(f"what git reads of {line}", (status, found, message), status, expected)
+
+
+def wants_default():
+    """One .mailmap is there, and then one that can't be read."""
+    Path(".mailmap").write_bytes(b"plain\nM <m@y> <a@x>\n")
+    Path("contact").write_bytes(b"b <A@x>\n")
+    for program, words, text, status, printed in DEFAULT:
+        wants(f"{program} {words} beside .mailmap", run(program, words.split(), input=text), status, printed)
+    Path(".mailmap").unlink()
+    Path(".mailmap").mkdir()
+    for program, words in (VERIFY, ""), (VERIFY, "--prune"), (VERIFY, "--contacts -"), (VERIFY, "--suggest -"), (SHORTLOG, ""):
+        wants(f"{program} {words} beside a folder .mailmap", run(program, words.split(), input=b""), 2, b"",
+              said(program, b".mailmap: Is a directory"))
+    Path(".mailmap").rmdir()
+
+
+def wants_git_log(text, is_log):
+    """All that read contacts refuse git log's own format, and nothing else, from standard input and from a file."""
+    Path("text").write_bytes(text)
+    for program, words in [
+        (VERIFY, ["--explain", "one"]), (VERIFY, ["--contacts", "-", "one"]), (VERIFY, ["--contacts", "text", "one"]),
+        (VERIFY, ["--suggest", "-", "one"]), (VERIFY, ["--suggest", "text", "one"]), (SHORTLOG, ["one"]),
+    ]:
+        status, printed, message = run(program, words, input=text)
+        refused = (status, printed, message) == (2, b"", said(program, NOT_CONTACTS))
+        wants(f"{program} {words} with {text[:60]}", (status == 2, refused, b""), is_log, is_log)
 
 
 def shows():
@@ -131,11 +198,17 @@ def shows():
         Path(name).write_bytes(text)
     for program, words, text, status, printed in TASKS:
         expected = (b"", said(program, printed)) if status == 2 else (printed, b"")
+        if program == SHORTLOG and text == COUNTED and b"\t" in printed:
+            expected = printed, skipped(text)
         wants(f"{program} {words}", run(program, words.split(), input=text), status, *expected)
+    wants_default()
+    for text, is_log in GIT_LOG:
+        wants_git_log(text, is_log)
     for text, shown in SHOWN:
         wants(f"{text} shown", run(VERIFY, ["--explain"], input=text), 0, shown + b" is no contact\n")
     for line, reading in GIT_READS:
         wants_git_reading(line, reading)
-    yield f"{len(TASKS)} tasks: options, files and standard input as the manual pages have them"
+    yield f"{len(TASKS) + len(DEFAULT)} tasks: options, files and standard input as the manual pages have them"
+    yield f"{len(GIT_LOG)} beginnings of contacts, of which those of git log's own format are refused"
     yield f"{len(SHOWN)} texts in which characters are escaped"
     yield f"{len(GIT_READS)} lines of a mailmap: git reads them as mailmap_verify says"

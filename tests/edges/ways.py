@@ -75,10 +75,18 @@ class Way(NamedTuple):
     model: Callable[[bytes], tuple]
     # whether lines are answered as they come
     streams: bool = False
+    # what is read from standard input
+    reads: bytes = b"contacts"
 
     def wanted(self, text):
         status, printed, *rest = self.model(text)
         return status, printed, *(rest or [b""])
+
+    def noted(self, text):
+        """The same at a terminal, where all programs but mailmap_check say what they read."""
+        status, printed, message = self.wanted(text)
+        note = b"reading %b from standard input" % self.reads
+        return status, printed, (b"" if self.program == CHECK else said(self.program, note)) + message
 
     def __str__(self):
         return " ".join([self.program.removeprefix("./"), *self.words])
@@ -88,13 +96,14 @@ WAYS = [
     Way(CHECK, ["mailmap"], lambda text: (0, check([MAILMAP], text)), True),
     Way(CHECK, [], lambda text: (0, check_input(text))),
     Way(CHECK, ["--compact"], lambda text: (0, compact([text]))),
-    Way(VERIFY, [], lambda text: findings.verify([text], [INPUT])),
-    Way(VERIFY, ["--prune", "-"], lambda text: findings.prune(text, INPUT)),
+    Way(VERIFY, ["-"], lambda text: findings.verify([text], [INPUT]), reads=b"the mailmap"),
+    Way(VERIFY, ["--prune", "-"], lambda text: findings.prune(text, INPUT), reads=b"the mailmap"),
     Way(VERIFY, ["--explain", "mailmap"], lambda text: (0, contacts.explain([MAILMAP], [b"mailmap"], text)), True),
     Way(VERIFY, ["--contacts", "-", "mailmap"],
         lambda text: contacts.verify_contacts([MAILMAP], [b"mailmap"], text, INPUT)),
-    Way(VERIFY, ["--contacts", "contacts"],
-        lambda text: contacts.verify_contacts([text], [INPUT], CONTACTS, b"contacts")),
+    Way(VERIFY, ["--contacts", "contacts", "-"],
+        lambda text: contacts.verify_contacts([text], [INPUT], CONTACTS, b"contacts"), reads=b"the mailmap"),
     Way(VERIFY, ["--suggest", "-", "mailmap"], lambda text: (0, suggest.suggest([MAILMAP], text))),
-    Way(SHORTLOG, ["-ne", "mailmap"], lambda text: (0, shortlog.shortlog([MAILMAP], text, True, True))),
+    Way(SHORTLOG, ["-ne", "mailmap"],
+        lambda text: (0, shortlog.shortlog([MAILMAP], text, True, True), shortlog.skipped(text))),
 ]

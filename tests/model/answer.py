@@ -17,9 +17,10 @@ from pathlib import Path
 sys.dont_write_bytecode = True
 from contacts import explain, verify_contacts
 from findings import prune, verify
-from shortlog import shortlog
+from shortlog import shortlog, skipped
 
 STANDARD_INPUT = b"<stdin>"
+DEFAULT = ".mailmap"
 
 
 def all_of(paths):
@@ -28,23 +29,35 @@ def all_of(paths):
     return [Path(path).read_bytes() for path in paths], [os.fsencode(path) for path in paths]
 
 
+def all_or_default(paths):
+    """Without a path, the default mailmap, if it is there."""
+    return all_of(paths or [path for path in [DEFAULT] if Path(path).exists()])
+
+
 def mailmaps_of(paths):
     """The contents and names of mailmaps, which can be standard input."""
-    return all_of(paths) if paths not in ([], ["-"]) else ([sys.stdin.buffer.read()], [STANDARD_INPUT])
+    return ([sys.stdin.buffer.read()], [STANDARD_INPUT]) if paths == ["-"] else all_of(paths)
 
 
 def pruned(paths):
     if len(paths) > 1:
         return 2, b"", b"mailmap_verify: --prune takes one FILE at most\n"
-    (buffer,), (name,) = mailmaps_of(paths)
+    (buffer,), (name,) = mailmaps_of(paths or [DEFAULT])
     return prune(buffer, name)
 
 
 def verified_contacts(contacts, paths):
     if contacts == "-":
-        return *verify_contacts(*all_of(paths), sys.stdin.buffer.read(), STANDARD_INPUT), b""
+        return *verify_contacts(*all_or_default(paths), sys.stdin.buffer.read(), STANDARD_INPUT), b""
     (text,), (name,) = all_of([contacts])
-    return *verify_contacts(*mailmaps_of(paths), text, name), b""
+    return *verify_contacts(*(mailmaps_of(paths) if paths else all_or_default([])), text, name), b""
+
+
+def shortlogged(words):
+    options = [word for word in words if word in ("-n", "-e")]
+    buffers, _ = all_or_default([word for word in words if word not in options])
+    contacts = sys.stdin.buffer.read()
+    return 0, shortlog(buffers, contacts, "-n" in options, "-e" in options), skipped(contacts)
 
 
 def answered(words):
@@ -57,10 +70,9 @@ def answered(words):
         case ["verify", "--contacts", contacts, *paths]:
             return verified_contacts(contacts, paths)
         case ["verify", *paths]:
-            return *verify(*mailmaps_of(paths)), b""
+            return *verify(*mailmaps_of(paths or [DEFAULT])), b""
         case ["shortlog", *words]:
-            buffers, _ = all_of(word for word in words if word not in ("-n", "-e"))
-            return 0, shortlog(buffers, sys.stdin.buffer.read(), "-n" in words, "-e" in words), b""
+            return shortlogged(words)
     return 2, b"", __doc__.encode()
 
 

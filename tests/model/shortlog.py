@@ -1,5 +1,5 @@
 """The model of `mailmap_shortlog`. The definitions are in `specs` of `shortlog_command` (`Shortlog`)."""
-from mailmap import answer, contact_of, entries_of, lines
+from mailmap import answer, contact_of, entries_of, lines, trim
 
 
 def shortlog(buffers, contacts, by_count=False, with_email=False):
@@ -10,3 +10,11 @@ def shortlog(buffers, contacts, by_count=False, with_email=False):
     texts = [b"%b <%b>" % (name, email) if with_email else name for name, email in answers]
     order = sorted(set(texts), key=lambda text: (-texts.count(text) if by_count else 0, text))
     return b"".join(b"%6d\t%b\n" % (texts.count(text), text) for text in order)
+
+
+def skipped(contacts):
+    """What is said of the lines that are neither blank nor contacts, if there are any."""
+    numbers = [number for number, line in enumerate(lines(contacts), 1) if trim(line) and not contact_of(line)]
+    if not numbers:
+        return b""
+    return b"mailmap_shortlog: lines without a contact: %d; the first is line %d\n" % (len(numbers), numbers[0])

@@ -17,11 +17,13 @@ from pathlib import Path
 
 sys.dont_write_bytecode = True
 sys.path.append(str(Path(__file__).resolve().parent.parent))
+sys.path.append(str(Path(__file__).resolve().parents[1] / "model"))
 sys.path.append(str(Path(__file__).resolve().parents[2] / "bench"))
 import measuring
 import runs
 from repository import Repository, has_git
 from runs import run, wants
+from shortlog import skipped
 
 # the number of distinct contacts, and the allowed ratio of the peak for a million contacts to that for few
 DIFFERENT = 5_000
@@ -39,6 +41,11 @@ git's options select what is piped: git log OPTIONS --format='%an <%ae>' | mailm
 """
 
 
+def wants_counts(what, program, words, contacts, printed):
+    """The status is 0, and the lines without a contact are said."""
+    wants(what, run(program, words, contacts), 0, printed, skipped(contacts))
+
+
 def stored(program):
     cases = [json.loads(line) for line in open(Path(__file__).with_name("cases.jsonl"), encoding="ascii")]
     for number, case in enumerate(cases, 1):
@@ -48,19 +55,23 @@ def stored(program):
         contacts = bytes.fromhex(case["contacts"])
         for ways, printed in zip(ASKED, case["shortlog"], strict=True):
             words = ways[number % len(ways)]
-            wants(f"case {number} {words}", run(program, [*words, *names], contacts), 0, bytes.fromhex(printed))
+            wants_counts(f"case {number} {words}", program, [*words, *names], contacts, bytes.fromhex(printed))
     return len(cases)
 
 
 def hostile(size=10_000_000):
-    """Contacts of any length and any bytes, the last without a line feed, and the expected output."""
+    """Contacts of any length and any bytes, the last without a line feed, the expected output, and what is said."""
     long = b"x" * size
-    yield "a long name", long + b" <j@x>", b"     1\t" + long + b" <j@x>\n"
-    yield "a long email", b"J <" + long + b">", b"     1\tJ <" + long + b">\n"
-    yield "empty emails", b"<>" * (size // 2), b"     1\t <>\n"
-    yield "zero bytes in contacts", b"J\0 <j@x\0>\n" * 2 + b"J <j@x\0>", b"     2\tJ\0 <j@x\0>\n     1\tJ <j@x\0>\n"
-    for byte in b"x<> \n\0":
-        yield f"byte {byte}", bytes([byte]) * size, b""
+    yield "a long name", long + b" <j@x>", b"     1\t" + long + b" <j@x>\n", b""
+    yield "a long email", b"J <" + long + b">", b"     1\tJ <" + long + b">\n", b""
+    yield "empty emails", b"<>" * (size // 2), b"     1\t <>\n", b""
+    yield ("zero bytes in contacts", b"J\0 <j@x\0>\n" * 2 + b"J <j@x\0>",
+           b"     2\tJ\0 <j@x\0>\n     1\tJ <j@x\0>\n", b"")
+    for byte in b"x<>\0":
+        yield (f"byte {byte}", bytes([byte]) * size, b"",
+               b"mailmap_shortlog: lines without a contact: 1; the first is line 1\n")
+    for byte in b" \n":
+        yield f"byte {byte}", bytes([byte]) * size, b"", b""
 
 
 def options(program):
@@ -69,22 +80,22 @@ def options(program):
     Path("-n").write_bytes(b"Joe <jane@x>\n")
     contacts = b"a <b@x>\njd <jane@x>\nno contact\njd <JANE@x>"
     both = b"     2\tJane Doe\n     1\ta\n"
-    wants("the greatest count first", run(program, ["-n", "m1"], contacts), 0, both)
-    wants("no mailmap", run(program, [], contacts), 0, b"     1\ta\n     2\tjd\n")
-    wants("no contact", run(program, ["m1"], b"no contact\n\n<\n"), 0, b"")
+    wants_counts("the greatest count first", program, ["-n", "m1"], contacts, both)
+    wants_counts("no mailmap", program, [], contacts, b"     1\ta\n     2\tjd\n")
+    wants_counts("no contact", program, ["m1"], b"no contact\n\n<\n", b"")
     wants("nothing", run(program, ["m1"]), 0, b"")
-    wants("empty fields", run(program, ["-e", "m1"], b"<>\n < > \n"), 0, b"     2\t <>\n")
-    wants("an empty name", run(program, [], b"<b@x>\n"), 0, b"     1\t\n")
-    wants("a path like an option", run(program, ["--", "-n"], contacts), 0, b"     2\tJoe\n     1\ta\n")
-    wants("an option after a path is a path", run(program, ["m1", "-n"], contacts), 0, b"     2\tJoe\n     1\ta\n")
+    wants_counts("empty fields", program, ["-e", "m1"], b"<>\n < > \n", b"     2\t <>\n")
+    wants_counts("an empty name", program, [], b"<b@x>\n", b"     1\t\n")
+    wants_counts("a path like an option", program, ["--", "-n"], contacts, b"     2\tJoe\n     1\ta\n")
+    wants_counts("an option after a path is a path", program, ["m1", "-n"], contacts, b"     2\tJoe\n     1\ta\n")
     wants("a dash is a path", run(program, ["-"], contacts), 2, b"",
           b"mailmap_shortlog: -: No such file or directory\n")
-    wants("many options", run(program, ["-n"] * 100_000 + ["m1"], contacts), 0, both)
+    wants_counts("many options", program, ["-n"] * 100_000 + ["m1"], contacts, both)
     long = b"x" * 200_000 + b" <l@x>\n"
-    wants("a long line", run(program, [], contacts + b"\n" + long * 2), 0,
+    wants_counts("a long line", program, [], contacts + b"\n" + long * 2,
           b"     1\ta\n     2\tjd\n     2\t" + b"x" * 200_000 + b"\n")
-    for what, lines, printed in hostile():
-        wants(f"hostile contacts: {what}", run(program, ["-e"], lines), 0, printed)
+    for what, lines, printed, said in hostile():
+        wants(f"hostile contacts: {what}", run(program, ["-e"], lines), 0, printed, said)
     wants("seven digits", run(program, ["m1"], b"a <b@x>\n" * 1_000_001), 0, b"1000001\ta\n")
     version = b"mailmap_shortlog " + Path(__file__).parents[2].joinpath("VERSION").read_bytes().strip() + b"\n"
     wants("version", run(program, ["-n", "--version"]), 0, version)
@@ -115,7 +126,7 @@ def as_git(program):
     repository = Repository(Path("repository"))
     for words in ["-s"], ["-se"], ["-sn"], ["-sne"]:
         printed = repository.git(["shortlog", *words, "main"])
-        wants(f"git shortlog {words}", run(program, [*words, repository.mailmap], repository.contacts), 0, printed)
+        wants_counts(f"git shortlog {words}", program, [*words, repository.mailmap], repository.contacts, printed)
 
 
 def peak(program, count):

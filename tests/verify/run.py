@@ -49,12 +49,12 @@ def wants_case(program, what, files, status, printed, pruning):
     if pruning is None:
         return
     ended, pruned, said = pruning
-    wants(f"{what}, standard input", run(program, [], files[0]), status, as_standard_input(printed))
+    wants(f"{what}, standard input", run(program, ["-"], files[0]), status, as_standard_input(printed))
     wants(f"{what}, pruned", run(program, ["--prune", "m1"]), ended, pruned, said)
     said = said.replace(b"git reads m1:", b"git reads <stdin>:")
-    wants(f"{what}, standard input pruned", run(program, ["--prune"], files[0]), ended, pruned, said)
+    wants(f"{what}, standard input pruned", run(program, ["--prune", "-"], files[0]), ended, pruned, said)
     if ended == 0:
-        wants(f"{what}, pruned twice", run(program, ["--prune"], pruned), 0, pruned)
+        wants(f"{what}, pruned twice", run(program, ["--prune", "-"], pruned), 0, pruned)
 
 
 def stored(program, name):
@@ -124,7 +124,7 @@ def beside(program):
     wants("contacts", run(program, ["--contacts", "\x1b", "team"]), 1, unneeded + said)
     wants("contacts and --", run(program, ["--contacts", "\x1b", "--", "team"]), 1, unneeded + said)
     shown = unneeded.replace(b"team", b"<stdin>") + said
-    for words in [], ["-"], ["--"], ["--", "-"]:
+    for words in ["-"], ["--", "-"]:
         wants("a mailmap of standard input", run(program, ["--contacts", "\x1b", *words], team), 1, shown)
     shown = unneeded + said.replace(b"\\x1b:", b"<stdin>:")
     wants("contacts of standard input", run(program, ["--contacts", "-", "team"], contacts), 1, shown)
@@ -137,7 +137,7 @@ def beside(program):
         Path(f"./{file}").write_bytes(b"J <j@x>\n")
         wants("an option as a file", run(program, ["--contacts", file, "--", "m0"], b""), 2, b"",
               b"mailmap_verify: m0: No such file or directory\n")
-        wants("an option as a file", run(program, ["--contacts", file], b"J <j@x>\n"), 0, b"")
+        wants("an option as a file", run(program, ["--contacts", file, "-"], b"J <j@x>\n"), 0, b"")
 
 
 def many_beside(program, size=1 << 20):
@@ -251,7 +251,7 @@ def options(program):
     for words in ["--", "-x"], ["--severity", "note", "--", "-x"]:
         wants("after --", run(program, words), 1, b"-x" + found)
     wants("pruned after --", run(program, ["--prune", "--", "-x"]), 0, b"plain\n")
-    for words in [], ["-"], ["--"], ["--", "-"]:
+    for words in ["-"], ["--", "-"]:
         wants(f"standard input: {words}", run(program, words, b"plain\n"), 1, b"<stdin>" + found)
         wants(f"standard input pruned: {words}", run(program, ["--prune", *words], b"plain\n"), 0, b"plain\n")
     said = b"mailmap_verify: -: No such file or directory\n"
@@ -281,7 +281,7 @@ def filters(program):
         wants(f"filters before a file: {words}", run(program, [*words, "team"]), status, printed)
         wants(f"filters after a file: {words}", run(program, ["team", *words]), status, printed)
         shown = printed.replace(b"team:", b"a\\x1b:")
-        wants(f"filters and a name: {words}", run(program, [*words, "--stdin-name=a\x1b"], Path("team").read_bytes()),
+        wants(f"filters and a name: {words}", run(program, [*words, "--stdin-name=a\x1b", "-"], Path("team").read_bytes()),
               status, shown)
     note = b"c:5: note: Jane Doe <q@x> (1) has the name of Jane Doe <jane@x> (1) [same-name]\n"
     alike = b"c:4: warning: Jane <JANE@x> (1) has the email of Jane Doe <jane@x> (1) [same-email]\n"
@@ -299,7 +299,7 @@ def filters(program):
         wants(f"filters, contacts and a name: {words}",
               run(program, ["team", *words, "--stdin-name", "name", "--contacts=-"], Path("c").read_bytes()), status, shown)
     Path("otherwise").write_bytes(b"N < a@x >\n")
-    wants("a name while pruning", run(program, ["--prune", "--stdin-name", "team"], b"N < a@x >\n"), 2, b"",
+    wants("a name while pruning", run(program, ["--prune", "--stdin-name", "team", "-"], b"N < a@x >\n"), 2, b"",
           b"mailmap_verify: git reads team:1 otherwise\n")
 
 
@@ -324,10 +324,10 @@ def objects(program):
     ]:
         status, printed, said = run(program, ["team", "--format=json", *words])
         wants(f"objects: {words}", (status, [json.loads(line) for line in printed.splitlines()], said), 1, want, b"")
-    status, printed, said = run(program, ["-f", "json", "--stdin-name", "\x1b"], b"plain\n")
+    status, printed, said = run(program, ["-f", "json", "--stdin-name", "\x1b", "-"], b"plain\n")
     email = {**email, "file": text("\x1b"), "line": 1}
     wants("an object with a name", (status, [json.loads(printed)], said), 1, [email], b"")
-    status, printed, said = run(program, [b"-f", b"json", b"--stdin-name", b"\xff"], b"plain\n")
+    status, printed, said = run(program, [b"-f", b"json", b"--stdin-name", b"\xff", b"-"], b"plain\n")
     email = {**email, "file": {"bytes": "/w=="}}
     wants("an object with a name in Base64", (status, [json.loads(printed)], said), 1, [email], b"")
     status, printed, said = run(program, ["-f", "json", "-e", "no-effect,no-email,ignored-text", "--contacts", "c", "team"])

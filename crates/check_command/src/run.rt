@@ -55,7 +55,7 @@ fn answer_parts<R: Read, W: Write>(
 {
     let stream = ContactStream::new(alloc, buffers)?;
     let mut lines = ContactLines { stream };
-    answer_lines(alloc, &mut lines, input, output)
+    answer_lines(alloc, &mut lines, &[], input, output)
 }
 
 // The lines of an input, whose contacts a stream answers.

@@ -1,13 +1,14 @@
 -- Answering an input part by part: what was read, answered and written.
 use Rattle.std.proofs.Common.{◌≡◌, ◌++◌, ◌∙◌, ℕ, [], Option, None, Some, Result, Ok, Err, OnErr, OnOk, ap, append-nil, append_assoc, refl, subst, sym, take}
 use Rattle.std.specs.Prelude.{IsOkUnless}
-use Rattle.std.specs.Io.KnownBytes.{Appends, Consumes, IsAtEnd}
-use Rattle.std.proofs.KnownBytes.{Appends-nil, Appends-trans, Consumes-nil, Consumes-trans}
+use Rattle.std.specs.Io.KnownBytes.{Appends, Consumes, IsAtEnd, Keeps}
+use Rattle.std.proofs.KnownBytes.{Appends-nil, Appends-trans, Consumes-kept, Consumes-nil, Consumes-trans}
+use Rattle.std.specs.declared.io.ErrorKind.{ErrorKind}
 use Rattle.mailmap_entries.specs.Folding.{Text}
 use Rattle.mailmap_grammar.specs.LineParts.{AnswersFront, AreInOrder, HasAnswered}
 use Rattle.mailmap_grammar.proofs.LineParts.{front_more, front_none, more_answered, nothing_answered}
 use Rattle.command_line.specs.Answering.{AnswersAll, LeavesLines, StopsIn}
-use Rattle.command_line.specs.Failures.{Failure, Memory, Output}
+use Rattle.command_line.specs.Failures.{Failure, Input, Memory, Output}
 use Rattle.command_line.specs.Printing.{PrintsFront}
 use Rattle.command_line.proofs.Printed.{Appends-both, Appends-longer}
 use Rattle.command_line.proofs.Reading.{all_given}
@@ -87,6 +88,29 @@ module _ (answers : Text → Text) (in_order : AreInOrder answers) where
           let whole = all_answered old later (h.read ++ part) all.0 all.1.0 consumed all.1.1 in
           output_failed answers old later before after (_, whole.1, Appends-longer before after all.2.0 all.0 whole.0 all.2.1)
       part_failed _ stops = absurd stops
+
+    -- a read fails
+    pub input_failed : {T : Type 0} (later : Option Text) (cause : ErrorKind) → Keeps now later
+        → LeavesLines {T = T} answers old later before between (Err (Input cause))
+    input_failed later cause kept =
+        let read = subst (Consumes old later) h.answered.front.bytes_are (Consumes-kept old now later h.read h.consumed kept) in
+        record {
+          prints = tt;
+          reads_all = tt;
+          breaks_off = λ is. cc;
+          input_fails = λ of. (
+            h.answered.made,
+            (h.answered.front.whole, partial, record { consumed = read; ends = h.answered.front.ends; no_feed = h.answered.no_feed }, h.answered.front.text_is),
+            h.answered.is_made,
+          );
+          memory_fails = λ is. cc;
+        }
+
+    -- memory runs out between two parts
+    pub memory_failed : {T : Type 0} (later : Option Text) → Consumes now later []
+        → LeavesLines {T = T} answers old later before between (Err Memory)
+    memory_failed later none =
+        part_failed later between [] none Memory ([], (partial ++ [], front_none answers in_order (partial ++ [])), Appends-nil between)
 
     all_lines : (later : Option Text) → Consumes now later [] → IsAtEnd later
         → AnswersAll answers old (h.answered.made ++ answers partial)

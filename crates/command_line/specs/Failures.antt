@@ -1,7 +1,7 @@
 -- Failures by what they concern.
 use Rattle.std.specs.Prelude.{⊤}
 pub use Rattle.command_line.specs.declared.failure.Failure.{Failure}
-pub use Rattle.command_line.specs.declared.failure.Failure.TheVariants.{File, Input, Memory, Output}
+pub use Rattle.command_line.specs.declared.failure.Failure.TheVariants.{File, GitLog, Input, Memory, Output}
 
 abbrev pub IsOfInput : Failure → Type 0
 IsOfInput (Input cause) = ⊤

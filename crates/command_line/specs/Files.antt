@@ -1,9 +1,9 @@
 -- What a file system holds, and the results of reading its files.
-use Rattle.std.specs.Prelude.{◌≡◌, ◌≢◌, ◌-◌, ℕ, suc, ◌<◌, ◌≤◌, ⊤, List, [], Option, Some, EachIndex, length, map}
+use Rattle.std.specs.Prelude.{◌≡◌, ◌≢◌, ◌⊎◌, ◌-◌, ℕ, suc, ◌<◌, ◌≤◌, ⊤, List, [], ◌∷◌, Option, Some, EachIndex, codes, length, map}
 use Rattle.std.specs.Prelude.{slice_index_or}
 use Rattle.std.specs.Global.{Vec}
 use Rattle.std.specs.declared.io.ErrorKind.{ErrorKind}
-use Rattle.std.specs.declared.io.ErrorKind.TheVariants.{OutOfMemory}
+use Rattle.std.specs.declared.io.ErrorKind.TheVariants.{NotFound, OutOfMemory}
 use Rattle.command_line.specs.Failures.{Failure, File, Memory}
 
 -- What is at a path: a file with these bytes, no file that can be opened, for this cause, or nobody knows.
@@ -63,3 +63,20 @@ abbrev pub IsOfNumber : AtPath → ℕ → Failure → Type 0
 IsOfNumber held number (File named cause) = (named ≡ number) × FailsWith held cause × (cause ≢ OutOfMemory)
 IsOfNumber held number Memory = ⊤
 IsOfNumber held number _ = ⊥
+
+-- ---- the default mailmap
+
+-- where git looks for a mailmap, in the current folder
+abbrev pub default_path : List ℕ
+default_path = codes ".mailmap"
+
+-- the content of the file there; none if there is no file
+abbrev pub IsDefault : AtPath → List (List ℕ) → Type 0
+IsDefault held contents = ((file : List ℕ) × Gives held file × (contents ≡ file ∷ []))
+    ⊎ (FailsWith held NotFound × (contents ≡ []))
+
+-- The file is there and can't be read, or memory ran out.
+abbrev pub FailsForDefault : AtPath → Failure → Type 0
+FailsForDefault held (File number cause) = IsOfNumber held 1 (File number cause) × (cause ≢ NotFound)
+FailsForDefault held Memory = ⊤
+FailsForDefault held _ = ⊥

@@ -4,7 +4,7 @@ use Rattle.std.specs.Global.{Vec}
 use Rattle.std.specs.declared.io.ErrorKind.{ErrorKind}
 use Rattle.std.specs.declared.io.ErrorKind.TheVariants as kind
 use Rattle.command_line.specs.Shown.{shown}
-use Rattle.command_line.specs.Failures.{Failure, File, Input, Memory, Output}
+use Rattle.command_line.specs.Failures.{Failure, File, GitLog, Input, Memory, Output}
 
 abbrev pub cause_text : ErrorKind → List ℕ
 cause_text cause = elim cause [
@@ -23,6 +23,7 @@ cause_text cause = elim cause [
 abbrev pub failure_text : List (List ℕ) → Failure → List ℕ
 failure_text paths (File number cause) = shown (slice_index_or paths (number - 1) []) ++ codes ": " ++ cause_text cause
 failure_text paths (Input cause) = codes "standard input: " ++ cause_text cause
+failure_text paths GitLog = codes "the contacts are git log's own format: use git log --format='%an <%ae>'"
 failure_text paths Memory = codes "out of memory"
 failure_text paths Output = codes "cannot write output"
 

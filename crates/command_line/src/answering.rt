@@ -1,6 +1,6 @@
 //! Answers the lines of an input while they are read.
-ghost use Rattle.std.specs.Prelude.{◌≡◌, ◌<◌, ◌≤◌, ◌⊎◌, ◌++◌, [], ℕ, List, IfErr, IfOk, OnErr, OnOk, length, take};
-ghost use Rattle.std.specs.Io.KnownBytes.{Appends};
+ghost use Rattle.std.specs.Prelude.{◌≡◌, ◌<◌, ◌≤◌, ◌⊎◌, ◌++◌, [], ℕ, List, IfErr, IfOk, OnErr, OnOk, Option, length, take};
+ghost use Rattle.std.specs.Io.KnownBytes.{Appends, Consumes};
 ghost use Rattle.mailmap_grammar.specs.LineParts.{AreInOrder, HasAnswered};
 ghost use Rattle.mailmap_grammar.specs.Lines.{HoldsNo};
 ghost use Rattle.command_line.specs.Answering.{LeavesLines, StopsIn};
@@ -42,22 +42,25 @@ pub trait LineAnswers {
     ghost in_order: { (s : Self) → AreInOrder (answers s) };
 }
 
-/// Answers all lines of an input.
+/// Answers all lines of an input, of which `start` was read before.
 ///
 /// Answers are written as lines come in: before the next read, all lines that have ended are answered. So a program that
 /// talks through pipes gets its answer after each line.
 pub fn answer_lines<A: LineAnswers, R: Read, W: Write>(
     alloc: Global,
     answerer: &mut A,
+    start: &[u8],
     input: &mut R,
     output: &mut W,
 ) -> Result<(), Failure>
     requires { A.partial answerer.old ≡ [] }
-    ensures leaves { LeavesLines (A.answers answerer.old) (R.remaining input.old) (R.remaining input.new)
+    ensures leaves { (unread : Option (List ℕ)) → Consumes unread (R.remaining input.old) start.now
+        → LeavesLines (A.answers answerer.old) unread (R.remaining input.new)
         (W.contents output.old) (W.contents output.new) result }
     ensures only { IfErr result (λ e. IsOfInput e ⊎ (e ≡ Failure.Memory) ⊎ (e ≡ Failure.Output)) }
 {
     let mut text = Vec::new(alloc);
+    answer_part(answerer, start, &mut text, output)?;
     let mut part = [0; PART];
     for _ in 0..u64::MAX {
         let count = match read_part(input, &mut part) {
@@ -77,7 +80,8 @@ pub fn answer_lines<A: LineAnswers, R: Read, W: Write>(
     })
 }
 
-// Writes the answers to all lines that end in a part. `text` is a buffer that is reused from call to call.
+// Writes the answers to all lines that end in a part; nothing, not even by flushing, if it is empty. `text` is a buffer
+// that is reused from call to call.
 fn answer_part<A: LineAnswers, W: Write>(
     answerer: &mut A,
     part: &[u8],
@@ -91,6 +95,9 @@ fn answer_part<A: LineAnswers, W: Write>(
         (W.contents output.old) (W.contents output.new)) }
     ensures same { A.answers answerer.new ≡ A.answers answerer.old }
 {
+    if part.is_empty() {
+        return Ok(());
+    }
     let mut taken = 0;
     while taken < part.len() {
         text.clear();

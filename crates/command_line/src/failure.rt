@@ -16,6 +16,9 @@ pub enum Failure {
     /// Standard input can't be read.
     #[error("cannot read standard input")]
     Input { cause: ErrorKind },
+    /// The contacts are in git log's own format.
+    #[error("the contacts are git log's own format")]
+    GitLog,
     /// There is no memory for the arguments, for the bytes that are read, or for processing them.
     #[error("out of memory")]
     Memory,

@@ -2,8 +2,8 @@
 ghost use Rattle.std.specs.Prelude.{◌≡◌, ◌⊎◌, ℕ, List, Err, IfErr, IfOk, IfSome, map};
 ghost use Rattle.std.specs.IoError.{error_kind};
 ghost use Rattle.command_line.specs.Failures.{IsOfFile};
-ghost use Rattle.command_line.specs.Files.{AreRead, AtPath, FailsWith, Gives, IsOfNumber, NamesFile, Opens, Unknown};
-ghost use Rattle.command_line.specs.Files.{texts};
+ghost use Rattle.command_line.specs.Files.{AreRead, AtPath, FailsForDefault, FailsWith, Gives, IsDefault, IsOfNumber, NamesFile};
+ghost use Rattle.command_line.specs.Files.{Opens, Unknown, default_path, texts};
 
 use crate::failure::Failure;
 use crate::streams::read_to_end;
@@ -11,6 +11,9 @@ use std::alloc::{AllocError, Global};
 use std::io::{ErrorKind, Read};
 use std::rt::Files;
 use std::{fs, io, str};
+
+/// Where git looks for a mailmap, in the current folder.
+pub const DEFAULT_PATH: &[u8] = b".mailmap";
 
 /// Opens and reads files by their paths. Programs use [`System`]; tests have their own.
 pub trait FileSystem {
@@ -108,6 +111,27 @@ pub fn read_file<F: FileSystem>(
         Ok(contents) => Ok(contents),
         Err(ErrorKind::OutOfMemory) => Err(Failure::Memory),
         Err(cause) => Err(Failure::File { number, cause }),
+    }
+}
+
+/// Reads the mailmap at [`DEFAULT_PATH`], as git does: without that file there is none.
+pub fn read_default<F: FileSystem>(system: &F, alloc: Global) -> Result<Vec<Vec<u8>>, Failure>
+    ensures ok { IfOk result (λ contents. IsDefault (F.at system.now default_path) (texts contents.items)) }
+    ensures err { IfErr result (FailsForDefault (F.at system.now default_path)) }
+{
+    let mut contents = Vec::new(alloc);
+    match read_file(system, alloc, DEFAULT_PATH, 1) {
+        Ok(file) => {
+            contents.push(file)?;
+            Ok(contents)
+        }
+        Err(
+            Failure::File {
+                cause: ErrorKind::NotFound,
+                ..
+            },
+        ) => Ok(contents),
+        Err(failure) => Err(failure),
     }
 }
 

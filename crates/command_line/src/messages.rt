@@ -75,6 +75,9 @@ pub fn push_failure(
             line.extend_from_slice(b"standard input: ")?;
             line.extend_from_slice(cause_text(cause).as_bytes())
         }
+        Failure::GitLog => line.extend_from_slice(
+            b"the contacts are git log's own format: use git log --format='%an <%ae>'",
+        ),
         Failure::Memory => line.extend_from_slice(b"out of memory"),
         Failure::Output => line.extend_from_slice(b"cannot write output"),
     }

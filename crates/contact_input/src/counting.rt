@@ -1,11 +1,13 @@
 //! Counts the contacts of an input while it is read.
-ghost use Rattle.std.specs.Prelude.{◌≡◌, ◌++◌, ◌⊎◌, List, ℕ, IfErr, IfOk, IfSome, OnOk};
+ghost use Rattle.std.specs.Prelude.{◌≡◌, ◌++◌, ◌⊎◌, List, ℕ, IfErr, IfOk, IfSome, IsErrOf, OnOk, false, true};
 ghost use Rattle.std.specs.Io.KnownBytes.{IsAtEnd};
 ghost use Rattle.bstr.specs.Text.{lines_of};
 ghost use Rattle.contact_counter.specs.Counts.{AreContactsOf, HasCounted};
 ghost use Rattle.command_line.specs.Failures.{IsOfInput};
 ghost use Rattle.contact_input.specs.Counted.{HasCountedRead};
+ghost use Rattle.contact_input.specs.GitLog.{is_git_log};
 
+use crate::start::read_start;
 use bstr::ByteSlice;
 use command_line::failure::Failure;
 use command_line::streams::{PART, read_part};
@@ -16,15 +18,20 @@ use std::io::{ErrorKind, Read};
 /// Counts the contacts on the lines of the rest of a reader.
 ///
 /// Reads in parts, so memory grows with the distinct contacts, with the number of lines that are neither blank nor
-/// contacts, and with the longest line, not with the number of contacts.
+/// contacts, and with the longest line, not with the number of contacts. Fails if these are git log's own format, and
+/// then reads no further than the first line.
 pub fn count_contacts<R: Read>(alloc: Global, input: &mut R) -> Result<Contacts, Failure>
     ensures counts { IfOk result (λ contacts. (text : List ℕ) × IfSome (R.remaining input.old) (λ bytes. text ≡ bytes)
         × AreContactsOf (lines_of text) contacts) }
     ensures end { OnOk result (IsAtEnd (R.remaining input.new)) }
-    ensures only { IfErr result (λ e. IsOfInput e ⊎ (e ≡ Failure.Memory)) }
+    ensures contacts { OnOk result (IfSome (R.remaining input.old) (λ bytes. is_git_log bytes ≡ false)) }
+    ensures git_log { IsErrOf result Failure.GitLog → IfSome (R.remaining input.old) (λ bytes. is_git_log bytes ≡ true) }
+    ensures only { IfErr result (λ e. IsOfInput e ⊎ (e ≡ Failure.Memory) ⊎ (e ≡ Failure.GitLog)) }
 {
+    let start = read_start(alloc, input)?;
     let mut contacts = ContactCounter::new(alloc)?;
     let mut partial = Vec::new(alloc);
+    add_part(&mut contacts, &mut partial, start.as_slice())?;
     let mut part = [0; PART];
     for _ in 0..u64::MAX {
         let count = match read_part(input, &mut part) {

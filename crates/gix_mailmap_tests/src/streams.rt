@@ -132,7 +132,7 @@ fn performed<R: Read, W: Write>(
         let Ok(task) = shortlog_command::task::task_of(&arguments) else {
             return Err(Failure::Memory);
         };
-        return shortlog_command::task::perform(&SHELF, alloc, task, input, output);
+        return shortlog_command::task::perform(&SHELF, alloc, task, input, output).map(|_| ());
     }
     let Ok(request) = verify_command::task::request_of(alloc, arguments) else {
         return Err(Failure::Memory);
@@ -183,7 +183,7 @@ fn reads_can_be_short_interrupted_or_fail(rt: HostRuntime) {
         ("check map", &[b'i'; 5_000], DONE, "--\nN <a@x>\np\n"),
         ("check --compact map", b"x", DONE, " N <a@x>\n"),
         ("check --compact", b"x", BROKEN, ""),
-        ("verify --prune", b"1i", DONE, "--\nb <A@x>\np"),
+        ("verify --prune -", b"1i", DONE, "--\nb <A@x>\np"),
         ("verify --explain map", b"*ib", BLOCKED, EXPLAINED),
         ("verify --contacts - map", b"11i", DONE, BESIDE),
         ("verify --suggest - map", b"1i", DONE, SUGGESTED),
@@ -210,10 +210,10 @@ fn writes_can_be_short_interrupted_or_fail(rt: HostRuntime) {
         ("check map", &[b'i'; 5_000], b"", DONE, "--\nN <a@x>\np\n"),
         ("check --compact map", b"", b"x", UNWRITTEN, " N <a@x>\n"),
         ("verify map", b"", b"x", UNWRITTEN, ""),
-        ("verify", b"1", b"", DONE, FOUND),
-        ("verify --prune", b"20", b"", UNWRITTEN, "--"),
-        ("verify --prune", b"", b"x", UNWRITTEN, "--\nb <A@x>\np"),
-        ("verify --prune", b"12", b"", DONE, "--\nb <A@x>\np"),
+        ("verify -", b"1", b"", DONE, FOUND),
+        ("verify --prune -", b"20", b"", UNWRITTEN, "--"),
+        ("verify --prune -", b"", b"x", UNWRITTEN, "--\nb <A@x>\np"),
+        ("verify --prune -", b"12", b"", DONE, "--\nb <A@x>\np"),
         ("verify --explain map", b"", b"x", UNWRITTEN, EXPLAINED),
         ("verify --explain map", b"*x", b"", UNWRITTEN, EXPLAINED),
         ("verify --explain map", b"1i", b"", DONE, ALL_EXPLAINED),

@@ -4,19 +4,24 @@
 //! `-e` it counts by names and emails, and with `-n` the greatest count comes first. `shortlog_command::task` parses
 //! the arguments.
 //!
-//! A failure prints a line on standard error, and the exit status is 2.
+//! A failure prints a line on standard error, and the exit status is 2. Lines that weren't counted are no failure: a line
+//! on standard error says how many.
 #![tactic(auto)]
 
 use command_line::arguments::arguments;
 use command_line::failure::Failure;
-use command_line::files::System;
+use command_line::files::{DEFAULT_PATH, System};
 use command_line::messages::{self, failure_line, misuse_lines};
-use command_line::outcome::{Outcome, exit_code};
-use shortlog_command::task::{Task, UnknownOption, perform, task_of};
-use std::alloc::AllocError;
+use command_line::streams::write_all;
+use shortlog_command::task::{Mode, Skipped, Task, UnknownOption, perform, skipped_line, task_of};
+use std::alloc::{AllocError, Global};
+use std::io::IsTerminal;
 use std::process::ExitCode;
+use std::slice;
 
 const PROGRAM: &[u8] = b"mailmap_shortlog";
+
+const READS: &str = "mailmap_shortlog: reading contacts from standard input\n";
 
 // Follows the message for an unknown option, which may be one of `git shortlog`.
 const USAGE_LINES: &str = "\
@@ -27,7 +32,7 @@ git's options select what is piped: git log OPTIONS --format='%an <%ae>' | mailm
 fn main(rt: HostRuntime) -> ExitCode {
     let arguments = match arguments(&rt, rt.alloc()) {
         Ok(arguments) => arguments,
-        Err(_) => return ended(&rt, &[], Err(Failure::Memory)),
+        Err(_) => return failed(&rt, &[], Failure::Memory),
     };
     match task_of(arguments.as_slice()) {
         Ok(task) => done(&rt, task),
@@ -44,16 +49,42 @@ fn main(rt: HostRuntime) -> ExitCode {
 
 fn done(rt: &HostRuntime, task: Task<'_>) -> ExitCode {
     let system = System { files: rt };
-    let end = perform(&system, rt.alloc(), task, &mut rt.stdin(), &mut rt.stdout());
-    ended(rt, task.paths, end)
+    let mut input = rt.stdin();
+    // At a terminal, a program that waits looks as if it hung.
+    if matches!(task.mode, Mode::Shortlog(_)) && input.is_terminal() {
+        let _ = write_all(&mut rt.stderr(), READS.as_bytes());
+    }
+    match perform(&system, rt.alloc(), task, &mut input, &mut rt.stdout()) {
+        Ok(None) => ExitCode::SUCCESS,
+        Ok(Some(skipped)) => told(rt, skipped),
+        Err(failure) => failed(rt, task.paths, failure),
+    }
 }
 
-// Reports a failure, if there is one, also by the exit status.
-fn ended(rt: &HostRuntime, paths: &[Vec<u8>], end: Result<(), Failure>) -> ExitCode {
-    if let Err(failure) = end {
-        say(rt, failure_line(rt.alloc(), PROGRAM, paths, failure));
+// Says which lines weren't counted.
+fn told(rt: &HostRuntime, skipped: Skipped) -> ExitCode {
+    match skipped_line(rt.alloc(), skipped) {
+        Ok(line) => {
+            say(rt, Ok(line));
+            ExitCode::SUCCESS
+        }
+        Err(_) => failed(rt, &[], Failure::Memory),
     }
-    exit_code(end.map(|()| Outcome::Clean))
+}
+
+// Reports a failure, also by the exit status.
+fn failed(rt: &HostRuntime, paths: &[Vec<u8>], failure: Failure) -> ExitCode {
+    say(rt, line_for(rt.alloc(), paths, failure));
+    ExitCode::from(2)
+}
+
+// The message for a failure. Without paths, the only file is git's own.
+fn line_for(alloc: Global, paths: &[Vec<u8>], failure: Failure) -> Result<Vec<u8>, AllocError> {
+    if !paths.is_empty() {
+        return failure_line(alloc, PROGRAM, paths, failure);
+    }
+    let own = Vec::from_slice(alloc, DEFAULT_PATH)?;
+    failure_line(alloc, PROGRAM, slice::from_ref(&own), failure)
 }
 
 // If standard error fails as well, the exit status still reports the failure.

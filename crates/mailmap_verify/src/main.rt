@@ -12,8 +12,10 @@ use command_line::files::System;
 use command_line::messages::{self, cause_text, push_failure};
 use command_line::outcome::exit_code;
 use command_line::shown::push_shown;
+use command_line::streams::write_all;
 use mailmap_report::places::push_position;
 use std::alloc::{AllocError, Global};
+use std::io::IsTerminal;
 use std::process::ExitCode;
 use verify_command::failure::TaskFailure;
 use verify_command::task::{Mode, ParseError, Request, Setting, perform, request_of};
@@ -42,17 +44,27 @@ fn main(rt: HostRuntime) -> ExitCode {
 
 fn done(rt: &HostRuntime, request: &Request) -> ExitCode {
     let system = System { files: rt };
-    let ended = perform(
-        &system,
-        rt.alloc(),
-        request,
-        &mut rt.stdin(),
-        &mut rt.stdout(),
-    );
+    let mut input = rt.stdin();
+    // At a terminal, a program that waits looks as if it hung.
+    if input.is_terminal() {
+        let _ = write_all(&mut rt.stderr(), reads(request).as_bytes());
+    }
+    let ended = perform(&system, rt.alloc(), request, &mut input, &mut rt.stdout());
     if let Err(failure) = ended {
         say(rt, failure_line(rt.alloc(), request, failure));
     }
     exit_code(ended)
+}
+
+// What is said if standard input is read.
+fn reads(request: &Request) -> &'static str {
+    if request.reads_mailmap() {
+        return "mailmap_verify: reading the mailmap from standard input\n";
+    }
+    if request.reads_contacts() {
+        return "mailmap_verify: reading contacts from standard input\n";
+    }
+    ""
 }
 
 // If standard error fails as well, the exit status still reports the failure.

@@ -1,3 +1,4 @@
 pub mod Compared
 pub mod Listing
 pub mod Ordered
+pub mod Skipped

@@ -17,6 +17,8 @@ use Rattle.mailmap_snapshot.specs.Semantics.{IsNormal, fields_for, no_fields}
 use Rattle.mailmap_entries.proofs.Alike.{alike_answer}
 use Rattle.mailmap_entries.proofs.Normal.{alike_normal}
 use Rattle.mailmap_entries.proofs.Parts.{all_map, all_mapped, all_weaker}
+use Rattle.std.specs.Result.{IsErrOf}
+use Rattle.command_line.specs.declared.failure.Failure.TheVariants.{Output}
 use Rattle.command_line.specs.Leaving.{LeavesText}
 use Rattle.command_line.specs.declared.failure.Failure.{Failure}
 use Rattle.contact_counter.specs.Contacts.{AreTallies, Contact, Tally, answer_to, both_seen, contact_on, contacts_from, once, same_contact, seen_where, tally_on}
@@ -154,6 +156,21 @@ err_then (Ok x) e P p failed = absurd (cc)
 err_then (Err x) e P p failed = p
 
 -- what it leaves is a text of another kind
+pub leaves_ok : {W T U : Type 0} {P : List ℕ → Type 0} {contents : W → Option (List ℕ)} {old new : W} {x : T} (y : U)
+    → LeavesText P contents old new (Ok x) → LeavesText P contents old new (Ok y)
+leaves_ok y left = record { prints = left.prints; breaks_off = λ failed. cc; silent = λ is. cc }
+
+is_output : {T : Type 0} (e : Failure) → IsErrOf {T = T} (Err e) Output → e ≡ Output
+is_output e failed = cc
+
+pub leaves_err : {W T U : Type 0} {P : List ℕ → Type 0} {contents : W → Option (List ℕ)} {old new : W} {e : Failure}
+    → LeavesText {T = T} P contents old new (Err e) → LeavesText {T = U} P contents old new (Err e)
+leaves_err {e = e} left = record {
+  prints = tt;
+  breaks_off = λ failed. left.breaks_off (ap Err (is_output e failed));
+  silent = λ is other. left.silent refl (λ failed. other (ap Err (is_output e failed)));
+}
+
 pub leaves_weaker : {W T : Type 0} {P Q : List ℕ → Type 0} {contents : W → Option (List ℕ)} {old new : W}
     {r : Result T Failure} → ((text : List ℕ) → P text → Q text) → LeavesText P contents old new r
     → LeavesText Q contents old new r

@@ -1,16 +1,20 @@
 -- The arguments of `mailmap_shortlog`, and what each task prints.
-use Rattle.std.specs.Prelude.{◌≡◌, ◌==◌, ◌&&◌, ◌||◌, ⊤, ℕ, Bool, true, false, if◌then◌else◌, nat_lt, IsTrue, List, [], ◌∷◌, ◌++◌, Option, Result, Ok, Err, IfSome, codes, drop, length, not, slice_index}
+use Rattle.std.specs.Prelude.{◌==◌, ◌&&◌, ◌||◌, ⊤, ℕ, Bool, true, false, if◌then◌else◌, nat_lt, IsTrue, List, [], ◌∷◌, ◌++◌, Option, Result, Ok, Err, IfSome, None, Some, ◌+◌, ◌≡◌, codes, decimal, drop, length, not, slice_index}
 use Rattle.std.specs.List.{list_all, list_any}
 use Rattle.std.specs.Str.{bytes_eq}
+use Rattle.bstr.specs.Text.{lines_of}
 use Rattle.mailmap_snapshot.specs.Folding.{Text}
-use Rattle.command_line.specs.Files.{AreRead, AtPath, NamesFile, texts}
+use Rattle.command_line.specs.Files.{AreRead, AtPath, FailsForDefault, IsDefault, NamesFile, default_path, texts}
 use Rattle.command_line.specs.declared.TheConstants.{VERSION}
 use Rattle.command_line.specs.declared.failure.Failure.{Failure}
-use Rattle.command_line.specs.declared.failure.Failure.TheVariants.{File, Input, Memory, Output}
+use Rattle.command_line.specs.declared.failure.Failure.TheVariants.{File, GitLog, Input, Memory, Output}
+use Rattle.contact_counter.specs.Contacts.{no_contacts_from}
+use Rattle.contact_input.specs.GitLog.{is_git_log}
 use Rattle.shortlog_command.specs.Shortlog.{IsShortlog, answers_counted}
 use Rattle.shortlog_command.specs.declared.task.Mode.{Mode}
 use Rattle.shortlog_command.specs.declared.task.Mode.TheVariants.{Help, Version, Shortlog}
 use Rattle.shortlog_command.specs.declared.task.Options.{Options}
+use Rattle.shortlog_command.specs.declared.task.Skipped.{Skipped}
 use Rattle.shortlog_command.specs.declared.task.Task.{Task}
 use Rattle.shortlog_command.specs.declared.task.UnknownOption.{UnknownOption}
 use Rattle.shortlog_command.specs.declared.task.TheConstants.{USAGE}
@@ -63,18 +67,49 @@ counts_contacts Help = false
 counts_contacts Version = false
 counts_contacts (Shortlog options) = true
 
+-- the contents of the files at the paths, or without a path that of the default mailmap, if it is there
+abbrev pub AreMailmaps : (Text → AtPath) → List Text → List Text → Type 0
+AreMailmaps at [] mailmaps = IsDefault (at default_path) mailmaps
+AreMailmaps at (path ∷ paths) mailmaps = AreRead at (path ∷ paths) mailmaps
+
 -- The text is the shortlog of all contacts on the input, using the mailmaps at these paths. If the input is unknown, it
 -- is a shortlog of some contacts.
 abbrev pub IsAnswer : (Text → AtPath) → Option Text → Mode → List Text → Text → Type 0
 IsAnswer at input Help paths text = text ≡ USAGE.now
 IsAnswer at input Version paths text = text ≡ codes "mailmap_shortlog " ++ VERSION.now ++ 10 ∷ []
-IsAnswer at input (Shortlog options) paths text = (mailmaps : List Text) × AreRead at paths mailmaps
+IsAnswer at input (Shortlog options) paths text = (mailmaps : List Text) × AreMailmaps at paths mailmaps
     × ((contacts : Text) × IfSome input (λ bytes. contacts ≡ bytes)
     × IsShortlog options.by_count (answers_counted options.with_email mailmaps contacts) text)
 
+-- how many lines these are, and the first of them
+abbrev pub skipped_of : List ℕ → Option Skipped
+skipped_of [] = None
+skipped_of (first ∷ rest) = Some (record { count = length rest + 1; first = first })
+
+-- the lines of the input that are neither blank nor contacts
+abbrev pub IsSkipped : Option Text → Mode → Option Skipped → Type 0
+IsSkipped input (Shortlog options) skipped =
+    IfSome input (λ bytes. skipped ≡ skipped_of (no_contacts_from 1 (lines_of bytes)))
+IsSkipped input mode skipped = skipped ≡ None
+
+abbrev pub skipped_line : Skipped → Text
+skipped_line s = codes "mailmap_shortlog: lines without a contact: " ++ decimal s.count
+    ++ codes "; the first is line " ++ decimal s.first ++ 10 ∷ []
+
+-- whether the known contacts are git log's own format
+abbrev pub IsLog : Option Text → Bool → Type 0
+IsLog input is_log = IfSome input (λ bytes. is_git_log bytes ≡ is_log)
+
+-- The file of this failure is the first mailmap that can't be read. The default one may be missing.
+abbrev pub NamesMailmap : (Text → AtPath) → List Text → Failure → Type 0
+NamesMailmap at [] failure = FailsForDefault (at default_path) failure
+NamesMailmap at (path ∷ paths) failure = NamesFile at (path ∷ paths) failure
+
 -- Such a task can fail in this way. A file that can't be read is named by its number among the paths, from 1.
-abbrev pub FailsFor : (Text → AtPath) → Mode → List Text → Failure → Type 0
-FailsFor at mode paths (File number cause) = IsTrue (counts_contacts mode) × NamesFile at paths (File number cause)
-FailsFor at mode paths (Input cause) = IsTrue (counts_contacts mode)
-FailsFor at mode paths Memory = ⊤
-FailsFor at mode paths Output = ⊤
+abbrev pub FailsFor : (Text → AtPath) → Option Text → Mode → List Text → Failure → Type 0
+FailsFor at input mode paths (File number cause) =
+    IsTrue (counts_contacts mode) × NamesMailmap at paths (File number cause)
+FailsFor at input mode paths (Input cause) = IsTrue (counts_contacts mode)
+FailsFor at input mode paths GitLog = IsTrue (counts_contacts mode) × IsLog input true
+FailsFor at input mode paths Memory = ⊤
+FailsFor at input mode paths Output = ⊤

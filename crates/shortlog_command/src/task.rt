@@ -1,26 +1,30 @@
 //! Parses the arguments of `mailmap_shortlog`, and runs what they ask for.
-ghost use Rattle.std.specs.Prelude.{◌≡◌, IfErr, IsErrOf, IsFalse, IsTrue, Ok, OnOk, drop};
+ghost use Rattle.std.specs.Prelude.{◌≡◌, ◌⊎◌, IfErr, IfOk, IsErrOf, IsFalse, IsTrue, Ok, OnOk, drop, false};
 ghost use Rattle.std.specs.Io.KnownBytes.{IsAtEnd};
 ghost use Rattle.std.specs.List.{list_all};
 ghost use Rattle.command_line.specs.Failures.{IsOfFile};
 ghost use Rattle.command_line.specs.Files.{texts};
 ghost use Rattle.command_line.specs.Leaving.{LeavesText};
-ghost use Rattle.shortlog_command.specs.Task.{FailsFor, IsAnswer, asked, asked_of, counts_contacts, is_option, no_options, options_with, task};
+ghost use Rattle.shortlog_command.specs.Task.{AreMailmaps, FailsFor, IsAnswer, IsLog, IsSkipped, NamesMailmap, asked, asked_of};
+ghost use Rattle.shortlog_command.specs.Task.{counts_contacts, is_option, no_options, options_with, skipped_line, skipped_of, task};
 
 use crate::shortlog::print_shortlog;
 use command_line::VERSION;
 use command_line::failure::Failure;
-use command_line::files::{FileSystem, list_of, read_files};
+use command_line::files::{FileSystem, list_of, read_default, read_files};
 use command_line::streams::write_all;
+use contact_counter::counter::Contacts;
 use contact_input::counting::count_contacts;
-use std::alloc::Global;
+use itoa::Buffer;
+use std::alloc::{AllocError, Global};
 use std::io::{Read, Write};
 
 pub const USAGE: &str = "\
 usage: mailmap_shortlog [-n] [-e] [-s] [--] [MAILMAP..]
        mailmap_shortlog -h | --help  prints this
        mailmap_shortlog --version    prints the version
-Counts the contacts of standard input by the names that the mailmaps give them.
+Counts the contacts of standard input by the names that the mailmaps give them. Without a MAILMAP, that is .mailmap in
+the current folder, if it is there.
   -n  the greatest count first
   -e  by names and emails
   -s  ignored, for compatibility with git shortlog
@@ -47,8 +51,15 @@ pub enum Mode {
 #[derive(Clone, Copy, Debug, PartialEq, Eq)]
 pub struct Task<'a> {
     pub mode: Mode,
-    /// The paths of the mailmaps. Without any, contacts count as they are.
+    /// The paths of the mailmaps. Without any, the mailmap is git's own, if it is there.
     pub paths: &'a [Vec<u8>],
+}
+
+/// The lines of the input that are neither blank nor contacts: how many, and the number of the first.
+#[derive(Clone, Copy, Debug, PartialEq, Eq)]
+pub struct Skipped {
+    pub count: usize,
+    pub first: usize,
 }
 
 /// An unknown option, or letters of which one is no option.
@@ -125,7 +136,8 @@ fn with_letters(options: Options, argument: &[u8]) -> Options
     }
 }
 
-/// Runs a task: prints the shortlog of the contacts on the input, the usage, or the version.
+/// Runs a task: prints the shortlog of the contacts on the input, the usage, or the version. Returns which lines of the
+/// input weren't counted.
 ///
 /// For a shortlog, the mailmaps are read first, in order, and then all of the input. The first failure ends the run.
 pub fn perform<F: FileSystem, R: Read, W: Write>(
@@ -134,7 +146,7 @@ pub fn perform<F: FileSystem, R: Read, W: Write>(
     task: Task<'_>,
     input: &mut R,
     output: &mut W,
-) -> Result<(), Failure>
+) -> Result<Option<Skipped>, Failure>
     // Exactly the answer is written; if writing fails, a prefix of it, and after any other failure nothing.
     ensures leaves { LeavesText (IsAnswer (F.at system.now) (R.remaining input.old) task.entry.mode
         (texts task.entry.paths.now)) W.contents output.old output.new result }
@@ -147,17 +159,26 @@ pub fn perform<F: FileSystem, R: Read, W: Write>(
     ensures unread { IsFalse (counts_contacts task.entry.mode) → input.new ≡ input.old }
     ensures unread_at_files { IfErr result (λ e. IsOfFile e → input.new ≡ input.old) }
 
+    // Which lines weren't counted. Contacts in git log's own format are refused.
+    ensures skipped { IfOk result (IsSkipped (R.remaining input.old) task.entry.mode) }
+    ensures refuses { OnOk result (IsTrue (counts_contacts task.entry.mode) → IsLog (R.remaining input.old) false) }
+
     // Which tasks can fail in which way. A file that can't be read is named by its number among the paths.
-    ensures fails { IfErr result (FailsFor (F.at system.now) task.entry.mode (texts task.entry.paths.now)) }
+    ensures fails { IfErr result (FailsFor (F.at system.now) (R.remaining input.old) task.entry.mode
+        (texts task.entry.paths.now)) }
 {
     match task.mode {
-        Mode::Help => write_all(output, USAGE.as_bytes()),
+        Mode::Help => {
+            write_all(output, USAGE.as_bytes())?;
+            Ok(None)
+        }
         Mode::Version => {
             let line = format!(in alloc; "mailmap_shortlog {VERSION}\n")?;
-            write_all(output, line.as_bytes())
+            write_all(output, line.as_bytes())?;
+            Ok(None)
         }
         Mode::Shortlog(options) => {
-            let mailmaps = read_files(system, alloc, task.paths)?;
+            let mailmaps = read_mailmaps(system, alloc, task.paths)?;
             let list = list_of(alloc, mailmaps.as_slice())?;
             let buffers = list.as_slice();
             let contacts = count_contacts(alloc, input)?;
@@ -168,7 +189,49 @@ pub fn perform<F: FileSystem, R: Read, W: Write>(
                 options.by_count,
                 options.with_email,
                 output,
-            )
+            )?;
+            Ok(skipped_of(&contacts))
         }
     }
+}
+
+// Reads the mailmaps at the paths, or without a path git's own, if it is there.
+fn read_mailmaps<F: FileSystem>(
+    system: &F,
+    alloc: Global,
+    paths: &[Vec<u8>],
+) -> Result<Vec<Vec<u8>>, Failure>
+    ensures ok { IfOk result (λ mailmaps. AreMailmaps (F.at system.now) (texts paths.now) (texts mailmaps.items)) }
+    ensures file { IfErr result (NamesMailmap (F.at system.now) (texts paths.now)) }
+    ensures only { IfErr result (λ e. IsOfFile e ⊎ (e ≡ Failure.Memory)) }
+{
+    if paths.is_empty() {
+        return read_default(system, alloc);
+    }
+    read_files(system, alloc, paths)
+}
+
+fn skipped_of(contacts: &Contacts) -> Option<Skipped>
+    ensures { result ≡ skipped_of contacts.now.lines_without_contact }
+{
+    match contacts.lines_without_contact() {
+        [] => None,
+        [first, rest @ ..] => Some(Skipped {
+            count: rest.len() + 1,
+            first: *first,
+        }),
+    }
+}
+
+/// The message about the lines that weren't counted.
+pub fn skipped_line(alloc: Global, skipped: Skipped) -> Result<Vec<u8>, AllocError>
+    ensures { IfOk result (λ line. line.items ≡ skipped_line skipped) }
+{
+    let mut buffer = Buffer::new();
+    let mut line = Vec::from_slice(alloc, b"mailmap_shortlog: lines without a contact: ")?;
+    line.extend_from_slice(buffer.format(skipped.count).as_bytes())?;
+    line.extend_from_slice(b"; the first is line ")?;
+    line.extend_from_slice(buffer.format(skipped.first).as_bytes())?;
+    line.push(b'\n')?;
+    Ok(line)
 }

@@ -15,6 +15,10 @@ use Rattle.mailmap_report.specs.Explained.{Grounds, each_line, explained_line}
 one_line : (answer : Text → Text) (line : Text) → AreWhole (line ∷ []) → each_line answer line ≡ answer line
 one_line answer line are = ap (flat_map answer) (ap whole_lines (sym (append-nil line)) ∙ whole_lines-joined (line ∷ []) are) ∙ append-nil (answer line)
 
+pub no_lines : (answer : Text → Text) → [] ≡ each_line answer []
+unfolding whole_lines
+no_lines answer = refl
+
 -- a last line without a line feed, or none
 pub last_line : (g : Grounds) (line : Text) → HoldsNo 10 line
     → each_line (explained_line g) line ≡ explained_line g line

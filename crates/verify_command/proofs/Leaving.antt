@@ -1,13 +1,16 @@
 -- What a run has written, what it has read, and how it can fail.
-use Rattle.std.proofs.Common.{◌≡◌, ◌⊎◌, ⊎_elim, Ok, Err, Bool, ◌&&◌, List, Option, Result, OnErr, ap, false, inl, inr, not, refl, subst, sym, true}
+use Rattle.std.proofs.Common.{◌≡◌, ◌⊎◌, ⊎_elim, Ok, Err, Bool, ◌&&◌, List, [], Option, Result, OnErr, ap, false, inl, inr, not, refl, subst, sym, true}
 use Rattle.std.specs.Prelude.{IfErr, IfOk, IfSome}
 use Rattle.std.proofs.lemmas.Result.{IfOk-weaker}
-use Rattle.std.specs.Io.KnownBytes.{Appends}
+use Rattle.std.specs.Io.KnownBytes.{Appends, Consumes}
+use Rattle.std.proofs.KnownBytes.{Appends-nil}
 use Rattle.mailmap_entries.specs.Folding.{Text}
+use Rattle.mailmap_grammar.specs.Lines.{HoldsNo}
+use Rattle.verify_command.proofs.EachLine.{no_lines}
 use Rattle.command_line.specs.Answering.{AnswersAll, AnswersAllRead, AnswersRead, LeavesLines}
 use Rattle.command_line.specs.Failures.{IsOfFile, IsOfInput}
 use Rattle.command_line.specs.declared.failure.Failure.{Failure}
-use Rattle.command_line.specs.declared.failure.Failure.TheVariants.{File, Input, Memory, Output}
+use Rattle.command_line.specs.declared.failure.Failure.TheVariants.{File, GitLog, Input, Memory, Output}
 use Rattle.command_line.specs.Files.{AreRead, AtPath}
 use Rattle.command_line.specs.Printing.{AppendsFront, Prints}
 use Rattle.command_line.specs.declared.outcome.Outcome.{Outcome}
@@ -34,7 +37,7 @@ leaves_weaker {r = r} f l = record {
 }
 
 -- standard input isn't the mailmap if it has the contacts
-no_mailmap : (mode : Mode) (contacts : Text) (none : Bool) → takes_contacts mode ≡ true → is_dash contacts ≡ true → (can_be_mailmap mode contacts && none) ≡ false
+pub no_mailmap : (mode : Mode) (contacts : Text) (none : Bool) → takes_contacts mode ≡ true → is_dash contacts ≡ true → (can_be_mailmap mode contacts && none) ≡ false
 no_mailmap Contacts contacts none takes dash = ap (λ d. not d && none) dash
 no_mailmap Suggest contacts none takes dash = refl
 no_mailmap _ contacts none takes dash = cc
@@ -68,6 +71,8 @@ left_silent (File number cause) other same =
     record { prints = tt; breaks_off = λ of. cc; memory = λ of. cc; silent = λ _ _ _. same }
 left_silent (Input cause) other same =
     record { prints = tt; breaks_off = λ of. cc; memory = λ of. cc; silent = λ _ _ _. same }
+left_silent GitLog other same =
+    record { prints = tt; breaks_off = λ of. cc; memory = λ of. cc; silent = λ _ _ _. same }
 
 explained_silent : {W : Type 0} {contents : W → Option Text} {old new : W} (at : Text → AtPath) (paths : List Text)
     (unread left : Option Text) (e : Failure) → ¬ IsOfInput e → ¬ (e ≡ Output) → new ≡ old
@@ -79,6 +84,13 @@ explained_silent at paths unread left Memory no_input other same = record {
   breaks_off = λ of. cc;
   input_fails = λ cause of. cc;
   memory_fails = λ _. inl same;
+  silent = λ of. same;
+}
+explained_silent at paths unread left GitLog no_input other same = record {
+  prints = tt;
+  breaks_off = λ of. cc;
+  input_fails = λ cause of. cc;
+  memory_fails = λ of. cc;
   silent = λ of. same;
 }
 explained_silent at paths unread left (File number cause) no_input other same = record {
@@ -106,12 +118,14 @@ input_is_mailmap at w (Input cause) fails of = fails
 input_is_mailmap at w (File number cause) fails of = absurd of
 input_is_mailmap at w Memory fails of = absurd of
 input_is_mailmap at w Output fails of = absurd of
+input_is_mailmap at w GitLog fails of = absurd of
 
 output_reads_nothing : (at : Text → AtPath) (w : Wanted) (e : Failure) → FailsToRead at w e → ¬ (e ≡ Output)
 output_reads_nothing at w Output fails is = fails
 output_reads_nothing at w (File number cause) fails is = cc
 output_reads_nothing at w (Input cause) fails is = cc
 output_reads_nothing at w Memory fails is = cc
+output_reads_nothing at w GitLog fails is = cc
 
 -- the mailmaps can't be read
 pub unread_mailmaps : {W : Type 0} (contents : W → Option Text) {old new : W} (at : Text → AtPath)
@@ -179,6 +193,11 @@ no_file : (e : Failure) → IsOfInput e ⊎ ((e ≡ Memory) ⊎ (e ≡ Output)) 
 no_file (File number cause) only of = ⊎_elim (λ x. x) (⊎_elim (λ is. cc) (λ is. cc)) only
 no_file _ only of = of
 
+no_log : (e : Failure) → IsOfInput e ⊎ ((e ≡ Memory) ⊎ (e ≡ Output)) → Run e ≡ Run GitLog → ⊥
+no_log e only is =
+    let same : e ≡ GitLog = cc in
+    ⊎_elim (subst IsOfInput same) (⊎_elim (λ memory. cc) (λ output. cc)) only
+
 module _ (at : Text → AtPath) (paths mailmaps : List Text) (g : Grounds) (read : AreRead at paths mailmaps) (are : AreGrounds paths mailmaps g) where
   by : (IsText : (Text → Text) → Text → Type 0) (before after : Option Text)
       → Prints (IsText (each_line (explained_line g))) before after → Prints (ExplainsBy at paths IsText) before after
@@ -208,5 +227,23 @@ module _ (at : Text → AtPath) (paths mailmaps : List Text) (g : Grounds) (read
         (l.input_fails (subst IsOfInput (sym same) tt));
     memory_fails = λ is. inr (by (λ answers. AnswersRead answers unread left) (contents old) (contents new)
         (l.memory_fails cc));
-    silent = λ of. absurd (no_file e only of);
+    silent = λ of. absurd (⊎_elim (no_file e only) (no_log e only) of);
+  }
+
+  -- reading fails before the first line has ended, memory runs out, or the contacts are git log's own format
+  pub start_failed : {W : Type 0} (unread left : Option Text) (contents : W → Option Text) (old : W) (e : Failure)
+      → (IsOfInput e → (bytes : Text) × Consumes unread left bytes × HoldsNo 10 bytes) → ¬ (e ≡ Output)
+      → LeavesExplained at paths unread left contents old old (Err (Run e))
+  start_failed unread left contents old e breaks other = record {
+    prints = tt;
+    breaks_off = λ is. let same : e ≡ Output = cc in absurd (other same);
+    input_fails = λ cause is. let same : e ≡ Input cause = cc in
+        let begun = breaks (subst IsOfInput (sym same) tt) in
+        by (λ answers. AnswersAllRead answers unread left) (contents old) (contents old) (
+          [],
+          ([], begun.0, record { consumed = begun.1; ends = inl refl; no_feed = begun.2 }, no_lines (explained_line g)),
+          Appends-nil (contents old),
+        );
+    memory_fails = λ is. inl refl;
+    silent = λ of. refl;
   }

@@ -5,7 +5,7 @@ use Rattle.std.specs.Str.{bytes_eq}
 use Rattle.bstr.specs.Text.{split_at}
 use Rattle.bstr.specs.Find.{first_of, matches}
 use Rattle.mailmap_entries.specs.Folding.{Text}
-use Rattle.command_line.specs.Files.{texts}
+use Rattle.command_line.specs.Files.{default_path, texts}
 use Rattle.mailmap_report.specs.Kinds.{kind_named}
 use Rattle.mailmap_report.specs.Settings.{Choices, choices_of, input_name, no_choices}
 use Rattle.mailmap_report.specs.declared.settings.Format.{Format}
@@ -30,6 +30,7 @@ pub record Wanted : Type 0 where
   pub contacts : Text
   pub choices : Choices
   pub paths : List Text
+  pub by_default : Bool
 
 -- an error in the arguments
 pub data Wrong : Type 0 where
@@ -46,6 +47,7 @@ wanted_of r = record {
   contacts = r.contacts.items;
   choices = choices_of r.settings;
   paths = texts r.paths.items;
+  by_default = r.by_default;
 }
 
 -- Unless memory runs out, this is the request or the error.
@@ -60,7 +62,7 @@ IsAsked (Err error.Memory) asked = ⊤
 
 -- what no argument asks for
 abbrev pub plain : Mode → Wanted
-plain mode = record { mode = mode; contacts = []; choices = no_choices; paths = [] }
+plain mode = record { mode = mode; contacts = []; choices = no_choices; paths = []; by_default = false }
 
 -- ---- single arguments
 
@@ -238,9 +240,20 @@ abbrev pub is_only_dash : List Text → Bool
 is_only_dash (path ∷ []) = is_dash path
 is_only_dash _ = false
 
--- a single `-` is standard input if that can be the mailmap, and counts as no path
+-- without a path the mode takes the default mailmap
+abbrev pub takes_default : Mode → Bool
+takes_default Verify = true
+takes_default Prune = true
+takes_default mode = takes_contacts mode
+
+-- A single `-` is standard input if that can be the mailmap. Without a path, the mailmap is the default one.
 abbrev pub finished : Wanted → Wanted
-finished w = if can_be_mailmap w.mode w.contacts && is_only_dash w.paths then record w { paths = [] } else w
+finished w = if can_be_mailmap w.mode w.contacts && is_only_dash w.paths then record w { paths = [] }
+    else if takes_default w.mode && has_none w.paths then record w { paths = default_path ∷ []; by_default = true } else w
+
+-- with contacts the default mailmap is read only if it is there
+abbrev pub reads_default : Wanted → Bool
+reads_default w = takes_contacts w.mode && w.by_default
 
 abbrev pub with_paths : Wanted → List Text → Wanted
 with_paths w paths = record w { paths = w.paths ++ paths }

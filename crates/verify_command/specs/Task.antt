@@ -17,13 +17,14 @@ use Rattle.mailmap_suggestions.specs.Suggestions.{Suggestion, suggestions}
 use Rattle.command_line.specs.Answering.{AnswersAll, AnswersAllRead, AnswersRead}
 use Rattle.command_line.specs.Failures.{IsOfFile}
 use Rattle.command_line.specs.declared.failure.Failure.{Failure}
-use Rattle.command_line.specs.declared.failure.Failure.TheVariants.{File, Input, Memory, Output}
-use Rattle.command_line.specs.Files.{AreRead, AtPath, Fails, Gives, NamesFile}
+use Rattle.command_line.specs.declared.failure.Failure.TheVariants.{File, GitLog, Input, Memory, Output}
+use Rattle.command_line.specs.Files.{AreRead, AtPath, Bytes, Fails, FailsForDefault, Gives, IsDefault, NamesFile, Unknown, default_path}
 use Rattle.command_line.specs.Printing.{Prints, PrintsFront}
+use Rattle.contact_input.specs.GitLog.{is_git_log}
 use Rattle.command_line.specs.declared.TheConstants.{VERSION}
 use Rattle.command_line.specs.declared.outcome.Outcome.{Outcome}
 use Rattle.command_line.specs.declared.outcome.Outcome.TheVariants.{Clean, Found}
-pub use Rattle.verify_command.specs.Arguments.{Wanted, contacts_name, is_dash, reads_contacts, reads_mailmap, takes_contacts, wanted_of}
+pub use Rattle.verify_command.specs.Arguments.{Wanted, contacts_name, is_dash, reads_contacts, reads_default, reads_mailmap, takes_contacts, wanted_of}
 use Rattle.mailmap_report.specs.Explained.{Explains}
 use Rattle.mailmap_report.specs.Report.{Piece, pieces_beside, report_pieces, text_of}
 use Rattle.mailmap_report.specs.Settings.{mailmap_names}
@@ -39,15 +40,42 @@ use Rattle.verify_command.specs.declared.asked.TheConstants.{USAGE}
 abbrev pub ReadsInput : Wanted → Type 0
 ReadsInput w = (reads_contacts w.mode w.contacts ≡ true) ⊎ (reads_mailmap w ≡ true)
 
--- The mailmaps are the contents of the files at the paths, or all of the input is the one mailmap.
+-- The mailmaps are the contents of the files at the paths; by default, with contacts, that of the file there, if there is
+-- one.
+abbrev pub AreInFiles : (Text → AtPath) → Wanted → List Text → Type 0
+AreInFiles at w mailmaps = (reads_default w ≡ false → AreRead at w.paths mailmaps)
+    × (reads_default w ≡ true → IsDefault (at default_path) mailmaps)
+
+-- The mailmaps are in files, or all of the input is the one mailmap.
 abbrev pub AreMailmaps : (Text → AtPath) → Option Text → Wanted → List Text → Type 0
-AreMailmaps at input w mailmaps = (reads_mailmap w ≡ false → AreRead at w.paths mailmaps)
+AreMailmaps at input w mailmaps = (reads_mailmap w ≡ false → AreInFiles at w mailmaps)
     × (reads_mailmap w ≡ true → (mailmap : Text) × (mailmaps ≡ mailmap ∷ []) × IfSome input (λ bytes. mailmap ≡ bytes))
 
 -- The text is the content of the file of contacts, or the input.
 abbrev pub AreContacts : (Text → AtPath) → Text → Option Text → Text → Type 0
 AreContacts at contacts input text = (is_dash contacts ≡ true → IfSome input (λ bytes. text ≡ bytes))
     × (is_dash contacts ≡ false → Gives (at contacts) text)
+
+-- whether the known contacts are git log's own format
+abbrev pub IsLog : Option Text → Bool → Type 0
+IsLog input is_log = IfSome input (λ bytes. is_git_log bytes ≡ is_log)
+
+abbrev pub IsLogIn : AtPath → Bool → Type 0
+IsLogIn (Bytes bytes) is_log = is_git_log bytes ≡ is_log
+IsLogIn (Fails cause) is_log = ⊥
+IsLogIn Unknown is_log = ⊤
+
+-- the same of the contacts in a file or on the input
+abbrev pub AreLog : (Text → AtPath) → Text → Option Text → Bool → Type 0
+AreLog at contacts input is_log = (is_dash contacts ≡ true → IsLog input is_log)
+    × (is_dash contacts ≡ false → IsLogIn (at contacts) is_log)
+
+-- the same of the contacts of a mode, if it has some
+abbrev pub HasLog : Mode → (Text → AtPath) → Text → Option Text → Bool → Type 0
+HasLog Explain at contacts input = IsLog input
+HasLog Contacts at contacts input = AreLog at contacts input
+HasLog Suggest at contacts input = AreLog at contacts input
+HasLog mode at contacts input = λ is_log. is_log ≡ false
 
 -- ---- the text of each mode, with its outcome
 
@@ -136,29 +164,36 @@ EndsPrinting (Run Memory) = ⊤
 EndsPrinting (Run Output) = ⊤
 EndsPrinting _ = ⊥
 
--- the input fails, memory runs out, or writing fails
-abbrev pub EndsAnswering : TaskFailure → Type 0
-EndsAnswering (Run (Input cause)) = ⊤
-EndsAnswering failure = EndsPrinting failure
+-- Explaining the contacts on the input can fail in this way.
+abbrev pub FailsToExplain : Option Text → TaskFailure → Type 0
+FailsToExplain input (Run (Input cause)) = ⊤
+FailsToExplain input (Run GitLog) = IsLog input true
+FailsToExplain input failure = EndsPrinting failure
 
 -- if the file is known to fail, this is the cause
 abbrev pub HasCause : AtPath → ErrorKind → Type 0
 HasCause (Fails known) cause = cause ≡ known
 HasCause _ cause = ⊤
 
+-- The failure is that of the first file of a mailmap that can't be read. The default one may be missing with contacts.
+abbrev pub NamesMailmap : (Text → AtPath) → Wanted → Failure → Type 0
+NamesMailmap at w failure = (reads_default w ≡ false → NamesFile at w.paths failure)
+    × (reads_default w ≡ true → FailsForDefault (at default_path) failure)
+
 -- Reading the mailmaps can fail in this way.
 abbrev pub FailsToRead : (Text → AtPath) → Wanted → Failure → Type 0
-FailsToRead at w (File number cause) = (reads_mailmap w ≡ false) × NamesFile at w.paths (File number cause)
+FailsToRead at w (File number cause) = (reads_mailmap w ≡ false) × NamesMailmap at w (File number cause)
 FailsToRead at w (Input cause) = reads_mailmap w ≡ true
 FailsToRead at w Memory = ⊤
-FailsToRead at w Output = ⊥
+FailsToRead at w _ = ⊥
 
 -- Reading the contacts can fail in this way.
-abbrev pub FailsForContacts : (Text → AtPath) → Text → TaskFailure → Type 0
-FailsForContacts at contacts (Run (Input cause)) = is_dash contacts ≡ true
-FailsForContacts at contacts (Run Memory) = ⊤
-FailsForContacts at contacts (NoContacts cause) = (is_dash contacts ≡ false) × HasCause (at contacts) cause
-FailsForContacts at contacts _ = ⊥
+abbrev pub FailsForContacts : (Text → AtPath) → Text → Option Text → TaskFailure → Type 0
+FailsForContacts at contacts input (Run (Input cause)) = is_dash contacts ≡ true
+FailsForContacts at contacts input (Run GitLog) = AreLog at contacts input true
+FailsForContacts at contacts input (Run Memory) = ⊤
+FailsForContacts at contacts input (NoContacts cause) = (is_dash contacts ≡ false) × HasCause (at contacts) cause
+FailsForContacts at contacts input _ = ⊥
 
 -- Pruning the mailmap can fail in this way. The position is that of the first line that git reads in another way.
 abbrev pub FailsToPrune : List Text → TaskFailure → Type 0
@@ -169,12 +204,13 @@ FailsToPrune mailmaps failure = EndsPrinting failure
 -- Such a request can fail in this way. A file that can't be read is named by its number among the paths, from 1. The
 -- contacts are read after the mailmaps.
 abbrev pub FailsFor : (Text → AtPath) → Option Text → Wanted → TaskFailure → Type 0
-FailsFor at input w (Run (File number cause)) = NamesFile at w.paths (File number cause)
+FailsFor at input w (Run (File number cause)) = NamesMailmap at w (File number cause)
 FailsFor at input w (Run (Input cause)) = ReadsInput w
+FailsFor at input w (Run GitLog) = HasLog w.mode at w.contacts input true
 FailsFor at input w (Run _) = ⊤
 FailsFor at input w TooManyFiles = (w.mode ≡ Prune) × (1 < length w.paths)
 FailsFor at input w (NoContacts cause) = (mailmaps : List Text) × AreMailmaps at input w mailmaps
-    × (takes_contacts w.mode ≡ true) × FailsForContacts at w.contacts (NoContacts cause)
+    × (takes_contacts w.mode ≡ true) × FailsForContacts at w.contacts input (NoContacts cause)
 FailsFor at input w (ReadOtherwise position) = (mailmaps : List Text) × AreMailmaps at input w mailmaps
     × (w.mode ≡ Prune) × FailsToPrune mailmaps (ReadOtherwise position)
 
@@ -207,7 +243,7 @@ pub record LeavesExplained {W : Type 0} (at : Text → AtPath) (paths : List Tex
       → Prints (ExplainsBy at paths (λ answers. AnswersAllRead answers unread left)) (contents old) (contents new)
   pub memory_fails : IsErrOf result (Run Memory) → (new ≡ old)
       ⊎ Prints (ExplainsBy at paths (λ answers. AnswersRead answers unread left)) (contents old) (contents new)
-  pub silent : IfErr result (λ e. IsOfMailmap e → new ≡ old)
+  pub silent : IfErr result (λ e. IsOfMailmap e ⊎ (e ≡ Run GitLog) → new ≡ old)
 
 -- What a run in each mode has written. `unread` is standard input before, and `left` after.
 abbrev pub LeavesFor : {W : Type 0} → Mode → (Text → AtPath) → Option Text → Option Text → Wanted → (W → Option Text)

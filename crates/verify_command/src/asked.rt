@@ -19,8 +19,8 @@ Options:
       --stdin-name NAME    the name of standard input in messages
   -h, --help               prints this
       --version            prints the version
-Without a FILE, and for a single -, the mailmap is read from standard input, unless that has contacts: always for
---explain, and if CONTACTS is -. With --suggest it never is.
+Without a FILE, the mailmap is .mailmap in the current folder; --contacts and --suggest do without one if it isn't
+there, and --explain always does. A single - is standard input, but for --explain and --suggest, and if CONTACTS is -.
 Status 0: nothing or only notes were found. 1: an error or a warning was found, or with -S anything was reported.
 2: a failure.
 ";
@@ -54,6 +54,8 @@ pub struct Request {
     /// The paths of the mailmaps. Without a path, standard input is the mailmap, unless it has contacts or lines are
     /// suggested.
     pub paths: Vec<Vec<u8>>,
+    /// Whether no path was given, so that with contacts the mailmap is git's own, if it is there.
+    pub by_default: bool,
 }
 
 /// An option with a value. The first two are also modes.

@@ -6,7 +6,7 @@ ghost use Rattle.bstr.specs.Text.{lines_of};
 ghost use Rattle.mailmap_entries.specs.Folding.{Text};
 ghost use Rattle.mailmap_contacts.specs.Counts.{AreContactsOf};
 ghost use Rattle.mailmap_suggestions.specs.Views.{suggestion_of};
-ghost use Rattle.verify_command.specs.Task.{AreContacts, AreSuggested, EndsPrinting, FailsForContacts, FromContacts};
+ghost use Rattle.verify_command.specs.Task.{AreContacts, AreLog, AreSuggested, EndsPrinting, FailsForContacts, FromContacts};
 ghost use Rattle.verify_command.specs.Task.{IsReportBeside, Leaves, is_dash, suggestion_pieces, wanted_of};
 
 use crate::asked::Request;
@@ -43,7 +43,9 @@ pub(crate) fn report_contacts<F: FileSystem, R: Read, W: Write>(
         request.now.contacts.items (R.remaining input.old)) W.contents output.old output.new result }
     ensures reads_all { is_dash request.now.contacts.items ≡ true → OnOk result (IsAtEnd (R.remaining input.new)) }
     ensures unread { is_dash request.now.contacts.items ≡ false → input.new ≡ input.old }
-    ensures fails { IfErr result (λ e. EndsPrinting e ⊎ FailsForContacts (F.at system.now) request.now.contacts.items e) }
+    ensures refuses { OnOk result (AreLog (F.at system.now) request.now.contacts.items (R.remaining input.old) false) }
+    ensures fails { IfErr result (λ e. EndsPrinting e
+        ⊎ FailsForContacts (F.at system.now) request.now.contacts.items (R.remaining input.old) e) }
 {
     let counted = read_contacts(system, alloc, request, input)?;
     print_report(alloc, request, buffers, &counted, output)
@@ -62,7 +64,9 @@ pub(crate) fn suggest_lines<F: FileSystem, R: Read, W: Write>(
         request.now.contacts.items (R.remaining input.old)) W.contents output.old output.new result }
     ensures reads_all { is_dash request.now.contacts.items ≡ true → OnOk result (IsAtEnd (R.remaining input.new)) }
     ensures unread { is_dash request.now.contacts.items ≡ false → input.new ≡ input.old }
-    ensures fails { IfErr result (λ e. EndsPrinting e ⊎ FailsForContacts (F.at system.now) request.now.contacts.items e) }
+    ensures refuses { OnOk result (AreLog (F.at system.now) request.now.contacts.items (R.remaining input.old) false) }
+    ensures fails { IfErr result (λ e. EndsPrinting e
+        ⊎ FailsForContacts (F.at system.now) request.now.contacts.items (R.remaining input.old) e) }
 {
     let counted = read_contacts(system, alloc, request, input)?;
     print_suggestions(alloc, buffers, &counted, output)
@@ -82,7 +86,8 @@ fn read_contacts<F: FileSystem, R: Read>(
         (R.remaining input.old) text × AreContactsOf (lines_of text) counted) }
     ensures reads_all { is_dash request.now.contacts.items ≡ true → OnOk result (IsAtEnd (R.remaining input.new)) }
     ensures unread { is_dash request.now.contacts.items ≡ false → input.new ≡ input.old }
-    ensures fails { IfErr result (FailsForContacts (F.at system.now) request.now.contacts.items) }
+    ensures refuses { OnOk result (AreLog (F.at system.now) request.now.contacts.items (R.remaining input.old) false) }
+    ensures fails { IfErr result (FailsForContacts (F.at system.now) request.now.contacts.items (R.remaining input.old)) }
 {
     let contacts = request.contacts.as_slice();
     if contacts == b"-".as_slice() {
@@ -95,6 +100,7 @@ fn read_contacts<F: FileSystem, R: Read>(
     match count_contacts(alloc, &mut file) {
         Ok(counted) => Ok(counted),
         Err(Failure::Input { cause }) => Err(TaskFailure::Contacts { cause }),
+        Err(Failure::GitLog) => Err(TaskFailure::Run(Failure::GitLog)),
         Err(_) => Err(TaskFailure::Run(Failure::Memory)),
     }
 }

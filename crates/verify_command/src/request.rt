@@ -4,13 +4,14 @@ ghost use Rattle.std.specs.Option.{option_copied};
 ghost use Rattle.std.specs.Vec.Iter.{into_iter_items, into_iter_len};
 ghost use Rattle.command_line.specs.Files.{texts};
 ghost use Rattle.verify_command.specs.Arguments.{IsAsked, asked, can_be_mailmap, checked, contacts_name};
-ghost use Rattle.verify_command.specs.Arguments.{finished, format_named, is_only_dash, level_named, name_in, plain, reads_mailmap};
-ghost use Rattle.verify_command.specs.Arguments.{reports, setting_named, setting_word, unused_setting};
+ghost use Rattle.verify_command.specs.Arguments.{finished, format_named, is_only_dash, level_named, name_in, plain, reads_default};
+ghost use Rattle.verify_command.specs.Arguments.{reads_contacts, reads_mailmap, reports, setting_named, setting_word, takes_contacts, takes_default, unused_setting};
 ghost use Rattle.verify_command.specs.Arguments.{value_in, wanted_of, with_excluded, with_mode, with_paths, with_setting};
 ghost use Rattle.verify_command.specs.Arguments.{without_value, word_of};
 
 use crate::asked::{Mode, ParseError, Request, Setting};
 use bstr::ByteSlice;
+use command_line::files::DEFAULT_PATH;
 use mailmap_report::kinds::{Kind, Level};
 use mailmap_report::settings::{Format, Settings};
 use std::alloc::Global;
@@ -75,7 +76,7 @@ fn read_words(alloc: Global, mut words: IntoIter<Vec<u8>, Global>) -> Result<Req
             Word::Unknown => return Err(ParseError::UnknownOption(argument)),
         }
     }
-    Ok(request.finished())
+    request.finished()
 }
 
 impl Request {
@@ -87,6 +88,7 @@ impl Request {
             contacts: Vec::new(alloc),
             settings: Settings::new(alloc),
             paths: Vec::new(alloc),
+            by_default: false,
         }
     }
 
@@ -169,26 +171,50 @@ impl Request {
         for word in words {
             self.paths.push(word)?;
         }
-        Ok(self.finished())
+        self.finished()
     }
 
-    // Makes a single `-` standard input, if that can be the mailmap.
-    fn finished(mut self) -> Request
-        ensures { wanted_of result ≡ finished (wanted_of self) }
+    // Makes a single `-` standard input, if that can be the mailmap. Without a path, the mailmap is git's own.
+    fn finished(mut self) -> Result<Request, ParseError>
+        ensures { IsAsked result (Ok (finished (wanted_of self))) }
     {
         if can_be_mailmap(self.mode, self.contacts.as_slice())
             && is_only_dash(self.paths.as_slice())
         {
             self.paths.clear();
+            return Ok(self);
         }
-        self
+        if takes_default(self.mode) && self.paths.is_empty() {
+            let path = Vec::from_slice(*self.contacts.allocator(), DEFAULT_PATH)?;
+            self.paths.push(path)?;
+            self.by_default = true;
+        }
+        Ok(self)
+    }
+
+    /// Whether the mailmap is git's own, if it is there.
+    pub(crate) fn reads_default(&self) -> bool
+        ensures { result ≡ reads_default (wanted_of self.now) }
+    {
+        takes_contacts(self.mode) && self.by_default
     }
 
     /// Whether standard input is the mailmap.
-    pub(crate) fn reads_mailmap(&self) -> bool
+    pub fn reads_mailmap(&self) -> bool
         ensures { result ≡ reads_mailmap (wanted_of self.now) }
     {
         can_be_mailmap(self.mode, self.contacts.as_slice()) && self.paths.is_empty()
+    }
+
+    /// Whether standard input has the contacts.
+    pub fn reads_contacts(&self) -> bool
+        ensures { result ≡ reads_contacts self.now.mode self.now.contacts.items }
+    {
+        match self.mode {
+            Mode::Explain => true,
+            Mode::Contacts | Mode::Suggest => self.contacts.as_slice() == b"-".as_slice(),
+            Mode::Help | Mode::Version | Mode::Verify | Mode::Prune => false,
+        }
     }
 
     /// The name of the file of contacts in messages.
@@ -232,6 +258,23 @@ fn reports(mode: Mode) -> bool
     ensures { result ≡ reports mode }
 {
     mode == Mode::Verify || mode == Mode::Contacts
+}
+
+// Whether there is a file of contacts.
+fn takes_contacts(mode: Mode) -> bool
+    ensures { result ≡ takes_contacts mode }
+{
+    mode == Mode::Contacts || mode == Mode::Suggest
+}
+
+// Whether the mailmap is git's own without a path.
+fn takes_default(mode: Mode) -> bool
+    ensures { result ≡ takes_default mode }
+{
+    match mode {
+        Mode::Verify | Mode::Prune | Mode::Contacts | Mode::Suggest => true,
+        Mode::Help | Mode::Version | Mode::Explain => false,
+    }
 }
 
 // Whether standard input can be the mailmap: it hasn't contacts, and lines aren't suggested.

@@ -1,9 +1,10 @@
 //! Runs what the arguments of `mailmap_verify` ask for.
-ghost use Rattle.std.specs.Prelude.{◌≡◌, ◌<◌, IfErr, IfOk, IsErrOf, OnOk, false, length, map, true};
+ghost use Rattle.std.specs.Prelude.{◌≡◌, ◌<◌, ◌⊎◌, IfErr, IfOk, IsErrOf, OnOk, false, length, map, true};
 ghost use Rattle.std.specs.Io.KnownBytes.{IsAtEnd};
+ghost use Rattle.command_line.specs.Failures.{IsOfFile};
 ghost use Rattle.command_line.specs.Files.{texts};
-ghost use Rattle.verify_command.specs.Task.{AreMailmaps, EndsPrinting, FailsFor, FailsToPrune, FailsToRead, IsKnown};
-ghost use Rattle.verify_command.specs.Task.{IsOfMailmap, IsPrunedFrom, Leaves, LeavesFor, ReadsInput, reads_contacts};
+ghost use Rattle.verify_command.specs.Task.{AreInFiles, AreMailmaps, EndsPrinting, FailsFor, FailsToPrune, FailsToRead, HasLog, IsKnown};
+ghost use Rattle.verify_command.specs.Task.{IsOfMailmap, IsPrunedFrom, Leaves, LeavesFor, NamesMailmap, ReadsInput, reads_contacts};
 ghost use Rattle.verify_command.specs.Task.{reads_mailmap, version_line, wanted_of};
 
 pub use crate::asked::{Mode, ParseError, Request, Setting, USAGE};
@@ -14,7 +15,7 @@ use crate::report::verify;
 pub use crate::request::request_of;
 use command_line::VERSION;
 use command_line::failure::Failure;
-use command_line::files::{FileSystem, list_of, read_files};
+use command_line::files::{FileSystem, list_of, read_default, read_files};
 use command_line::outcome::Outcome;
 use command_line::streams::{read_input, write_all};
 use mailmap_findings::verify::{first_read_otherwise, prune};
@@ -44,6 +45,10 @@ pub fn perform<F: FileSystem, R: Read, W: Write>(
     ensures unread { reads_contacts request.now.mode request.now.contacts.items ≡ false
         → reads_mailmap (wanted_of request.now) ≡ false → input.new ≡ input.old }
     ensures unread_at_files { IfErr result (λ e. IsOfMailmap e → input.new ≡ input.old) }
+
+    // Contacts in git log's own format are refused.
+    ensures refuses { OnOk result (HasLog request.now.mode (F.at system.now) request.now.contacts.items
+        (R.remaining input.old) false) }
 
     // Which requests can fail in which way. Only one mailmap can be pruned, which is checked before anything is read.
     ensures fails { IfErr result (FailsFor (F.at system.now) (R.remaining input.old) (wanted_of request.now)) }
@@ -85,11 +90,27 @@ fn read_mailmaps<F: FileSystem, R: Read>(
     ensures fails { IfErr result (FailsToRead (F.at system.now) (wanted_of request.now)) }
 {
     if !request.reads_mailmap() {
-        return read_files(system, alloc, request.paths.as_slice());
+        return read_mailmap_files(system, alloc, request);
     }
     let mut mailmaps = Vec::new(alloc);
     mailmaps.push(read_input(alloc, input)?)?;
     Ok(mailmaps)
+}
+
+// Reads the files of the mailmaps, of which git's own needn't be there for contacts.
+fn read_mailmap_files<F: FileSystem>(
+    system: &F,
+    alloc: Global,
+    request: &Request,
+) -> Result<Vec<Vec<u8>>, Failure>
+    ensures ok { IfOk result (λ mailmaps. AreInFiles (F.at system.now) (wanted_of request.now) (texts mailmaps.items)) }
+    ensures file { IfErr result (NamesMailmap (F.at system.now) (wanted_of request.now)) }
+    ensures only { IfErr result (λ e. IsOfFile e ⊎ (e ≡ Failure.Memory)) }
+{
+    if request.reads_default() {
+        return read_default(system, alloc);
+    }
+    read_files(system, alloc, request.paths.as_slice())
 }
 
 // Prints a mailmap without its lines that have no effect, if git reads each of its lines as the library does.

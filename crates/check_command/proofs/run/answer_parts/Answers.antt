@@ -1,4 +1,5 @@
 use Rattle.std.proofs.Common.{rules, ◌≡◌, Bor, Err, List, ℕ, flat_map, map, subst}
+use Rattle.std.proofs.KnownBytes.{Consumes-nil}
 use Rattle.mailmap_snapshot.specs.Contacts.{answers_by}
 use Rattle.mailmap_snapshot.specs.Lines.{mappings_of}
 use Rattle.command_line.specs.Answering.{LeavesLines}
@@ -16,4 +17,5 @@ returns-in_err-stream-clause-leaves g c =
 pub returns-clause-leaves : goal.returns-clause-leaves
 returns-clause-leaves g c =
     subst (λ (f : List ℕ → List ℕ). LeavesLines f (g.R.Read.remaining c.args.input.now) (g.R.Read.remaining c.answer_lines.new.input) (g.W.Write.contents c.args.output.now)
-    (g.W.Write.contents c.answer_lines.new.output) c.answer_lines.result) (λ i text. c.in_ok-stream.ensures.1 text i) c.answer_lines.ensures.leaves
+    (g.W.Write.contents c.answer_lines.new.output) c.answer_lines.result) (λ i text. c.in_ok-stream.ensures.1 text i)
+    (c.answer_lines.ensures.leaves (g.R.Read.remaining c.args.input.now) (Consumes-nil (g.R.Read.remaining c.args.input.now)))

@@ -1,6 +1,6 @@
-use Rattle.std.proofs.Common.{rules, ◌≡◌, ◌∙◌, ◌-◌, ◌++◌, Err, ap, arith, drop, length, refl, take, take_all, take-append-drop}
+use Rattle.std.proofs.Common.{rules, ◌≡◌, ◌∙◌, ◌-◌, ◌++◌, [], Err, ap, arith, drop, length, refl, take, take_all, take-append-drop}
 use Rattle.std.proofs.Math.Seq.{take-length}
-use Rattle.std.proofs.lemmas.List.{take_rest}
+use Rattle.std.proofs.lemmas.List.{nil_from_length, take_rest}
 use Rattle.std.proofs.lemmas.Result.{IfErr-weaker}
 use Rattle.std.proofs.KnownBytes.{Appends-kept, Appends-nil, Appends-trans}
 use Rattle.mailmap_grammar.proofs.LineParts.{more_answered, nothing_answered, slices}
@@ -51,3 +51,9 @@ returns-clause-err g c =
     let h = rw (take_all c.loop-taken.taken c.args.part.now (omega arith)) at c.loop-taken.invariant.0 in
     let written = Appends-kept (g.W.Write.contents c.args.output.now) (g.W.Write.contents c.loop-taken.output) (g.W.Write.contents c.flush.new.writer) h.made h.is_made c.flush.ensures.keeps in
     IfErr-weaker c.flush.result _ _ (λ e only. rw only (h.made, (g.A.LineAnswers.partial c.loop-taken.answerer, h.front), (length h.made, rw (take-length h.made) written))) c.flush.ensures.only
+
+pub returns-then-is_empty-clause-ok : goal.returns-then-is_empty-clause-ok
+returns-then-is_empty-clause-ok g c =
+    let zero : length c.args.part.now ≡ 0 = search rules in
+    let none = nil_from_length c.args.part.now zero in
+    rw none (nothing_answered (g.A.LineAnswers.answers c.args.answerer.now) (g.met.A.LineAnswers.in_order c.args.answerer.now) c.requires (Appends-nil (g.W.Write.contents c.args.output.now)))

@@ -1,10 +1,12 @@
-use Rattle.std.proofs.Common.{rules, ◌≡◌, ◌∙◌, ◌&&◌, Bor, Err, List, ℕ, ap, map, refl, subst}
+use Rattle.std.proofs.Common.{rules, ◌≡◌, ◌∙◌, ◌&&◌, Bor, Err, List, ℕ, ap, false, map, refl, subst}
 use Rattle.verify_command.specs.Arguments.{can_be_mailmap, has_none}
 use Rattle.verify_command.specs.Task.{AreMailmaps, AreSuggested, IsReportBeside, LeavesExplained, takes_contacts, wanted_of}
 use Rattle.command_line.specs.declared.failure.Failure.TheVariants.{Memory}
 use Rattle.verify_command.specs.declared.asked.TheConstants.{USAGE}
 use Rattle.verify_command.specs.declared.failure.TaskFailure.TheVariants.{Run}
-use Rattle.verify_command.proofs.Leaving.{in_mode, leaves_weaker, left_with, no_memory, only_verify, too_many_left, unread_mailmaps}
+use Rattle.std.proofs.lemmas.Result.{IfErr-weaker, on_ok_weaker}
+use Rattle.verify_command.proofs.Failing.{contacts_failed, explained_before, explaining_fails, log_before}
+use Rattle.verify_command.proofs.Leaving.{in_mode, leaves_weaker, left_with, no_mailmap, no_memory, only_verify, too_many_left, unread_mailmaps}
 use Rattle.verify_command.proofs.task.perform.Goals as goal
 
 abbrev now : Bor (List ℕ) → List ℕ
@@ -53,7 +55,7 @@ returns-in-Explain-clause-leaves g c =
     let unread = ap (λ i. g.R.Read.remaining i) (c.read_mailmaps.ensures.unread none) in
     in_mode g.W.Write.contents _ _ _ (g.F.FileSystem.at c.args.system.now) (g.R.Read.remaining c.args.input.now) _ (wanted_of c.args.request.now) c.in-Explain.is
     (subst (λ u. LeavesExplained (g.F.FileSystem.at c.args.system.now) w.paths u (g.R.Read.remaining c.explain_contacts.new.input) g.W.Write.contents c.args.output.now c.explain_contacts.new.output c.explain_contacts.result) unread
-    (leaves (g.F.FileSystem.at c.args.system.now) (are.0 none)))
+    (leaves (g.F.FileSystem.at c.args.system.now) ((are.0 none).0 (ap (λ m. takes_contacts m && w.by_default) c.in-Explain.is))))
 
 pub returns-in-Contacts-clause-leaves : goal.returns-in-Contacts-clause-leaves
 returns-in-Contacts-clause-leaves g c =
@@ -78,3 +80,45 @@ returns-clause-leaves g c =
     in_mode g.W.Write.contents _ _ _ (g.F.FileSystem.at c.args.system.now) (g.R.Read.remaining c.args.input.now) _ (wanted_of c.args.request.now)
     (only_verify c.args.request.now.mode (search rules) (search rules) (search rules) (search rules) (search rules) (search rules))
     (leaves_weaker (λ o t made. (mailmaps, are, made)) c.verify.ensures.leaves)
+
+pub returns-in-Explain-clause-refuses : goal.returns-in-Explain-clause-refuses
+returns-in-Explain-clause-refuses g c =
+    let w = wanted_of c.args.request.now in
+    let none = ap (λ m. can_be_mailmap m w.contacts && has_none w.paths) c.in-Explain.is in
+    let same = ap (λ i. g.R.Read.remaining i) (c.read_mailmaps.ensures.unread none) in
+    on_ok_weaker c.explain_contacts.result (λ known. explained_before w.mode (g.F.FileSystem.at c.args.system.now) w.contacts (g.R.Read.remaining c.args.input.now) (g.R.Read.remaining c.read_mailmaps.new.input) false c.in-Explain.is same known) c.explain_contacts.ensures.refuses
+
+pub returns-in-Explain-clause-fails : goal.returns-in-Explain-clause-fails
+returns-in-Explain-clause-fails g c =
+    let w = wanted_of c.args.request.now in
+    let none = ap (λ m. can_be_mailmap m w.contacts && has_none w.paths) c.in-Explain.is in
+    let same = ap (λ i. g.R.Read.remaining i) (c.read_mailmaps.ensures.unread none) in
+    IfErr-weaker c.explain_contacts.result _ _ (λ e fails. explaining_fails (g.F.FileSystem.at c.args.system.now) (g.R.Read.remaining c.args.input.now) (g.R.Read.remaining c.read_mailmaps.new.input) w e c.in-Explain.is same fails) c.explain_contacts.ensures.fails
+
+pub returns-in-Contacts-clause-refuses : goal.returns-in-Contacts-clause-refuses
+returns-in-Contacts-clause-refuses g c =
+    let w = wanted_of c.args.request.now in
+    let takes = ap takes_contacts c.in-Contacts.is in
+    on_ok_weaker c.report_contacts.result (λ known. log_before w.mode (g.F.FileSystem.at c.args.system.now) w.contacts (g.R.Read.remaining c.args.input.now) (g.R.Read.remaining c.read_mailmaps.new.input) false takes
+    (λ dash. ap (λ i. g.R.Read.remaining i) (c.read_mailmaps.ensures.unread (no_mailmap w.mode w.contacts (has_none w.paths) takes dash))) known) c.report_contacts.ensures.refuses
+
+pub returns-in-Contacts-clause-fails : goal.returns-in-Contacts-clause-fails
+returns-in-Contacts-clause-fails g c =
+    let w = wanted_of c.args.request.now in
+    let takes = ap takes_contacts c.in-Contacts.is in
+    IfErr-weaker c.report_contacts.result _ _ (λ e fails. contacts_failed (g.F.FileSystem.at c.args.system.now) (g.R.Read.remaining c.args.input.now) (g.R.Read.remaining c.read_mailmaps.new.input) w (map now c.as_slice-buffers.result.now) e takes (search rules)
+    (λ dash. ap (λ i. g.R.Read.remaining i) (c.read_mailmaps.ensures.unread (no_mailmap w.mode w.contacts (has_none w.paths) takes dash))) fails) c.report_contacts.ensures.fails
+
+pub returns-in-Suggest-clause-refuses : goal.returns-in-Suggest-clause-refuses
+returns-in-Suggest-clause-refuses g c =
+    let w = wanted_of c.args.request.now in
+    let takes = ap takes_contacts c.in-Suggest.is in
+    on_ok_weaker c.suggest_lines.result (λ known. log_before w.mode (g.F.FileSystem.at c.args.system.now) w.contacts (g.R.Read.remaining c.args.input.now) (g.R.Read.remaining c.read_mailmaps.new.input) false takes
+    (λ dash. ap (λ i. g.R.Read.remaining i) (c.read_mailmaps.ensures.unread (no_mailmap w.mode w.contacts (has_none w.paths) takes dash))) known) c.suggest_lines.ensures.refuses
+
+pub returns-in-Suggest-clause-fails : goal.returns-in-Suggest-clause-fails
+returns-in-Suggest-clause-fails g c =
+    let w = wanted_of c.args.request.now in
+    let takes = ap takes_contacts c.in-Suggest.is in
+    IfErr-weaker c.suggest_lines.result _ _ (λ e fails. contacts_failed (g.F.FileSystem.at c.args.system.now) (g.R.Read.remaining c.args.input.now) (g.R.Read.remaining c.read_mailmaps.new.input) w (map now c.as_slice-buffers.result.now) e takes (search rules)
+    (λ dash. ap (λ i. g.R.Read.remaining i) (c.read_mailmaps.ensures.unread (no_mailmap w.mode w.contacts (has_none w.paths) takes dash))) fails) c.suggest_lines.ensures.fails
