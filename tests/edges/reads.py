@@ -130,9 +130,11 @@ def broken_output():
             printed = read_all(reading) if blocks else b""
             if blocks:
                 os.close(reading)
+            told = message if blocks or way.program == CHECK else b""
             wants(f"a pipe {'that is full' if blocks else 'without a reader'}, {way}", (status, printed, failure),
-                  2, whole[:len(printed)], message)
-    return f"a pipe that no one reads, in {len(WAYS)} ways: a failure, and what was written is the beginning"
+                  2, whole[:len(printed)], told)
+    return (f"a pipe that no one reads, in {len(WAYS)} ways: a failure, of which only mailmap_check speaks if there is "
+            "no reader, and what was written is the beginning")
 
 
 def nothing_to_write():

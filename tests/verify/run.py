@@ -190,6 +190,13 @@ def file_names(program):
     wants("a file named as an option", run(program, ["./--prune"]), 2, b"", said)
 
 
+# what is said of an unknown value before the usage
+HELPS = {
+    b"unknown level": b"levels: error warning note\n",
+    b"unknown format": b"formats: gcc json\n",
+    b"unknown kind": b"kinds: no-email unclosed-email empty-email nothing-to-map unclosed-second-email ignored-text "
+                     b"git-reads no-effect itself-mapped unneeded no-contact same-email same-name git-answers\n",
+}
 USAGE_LINE = (
     b"usage: mailmap_verify [--prune | --explain | --contacts CONTACTS | --suggest CONTACTS] [-S LEVEL] [-e KIND,..]\n"
     b"     [-f FORMAT] [--stdin-name NAME] [--] [FILE..] | --help | --version\n"
@@ -244,7 +251,7 @@ def options(program):
         (["--prune", "-S", "error", "--foo"], b"--prune takes no --severity"),
         (["--foo", "--prune", "-S", "error"], b"unknown option: --foo"),
     ]:
-        said = b"mailmap_verify: " + wrong + b"\n" + USAGE_LINE
+        said = b"mailmap_verify: " + wrong + b"\n" + HELPS.get(wrong.split(b":")[0], b"") + USAGE_LINE
         wants(f"a misuse: {words}", run(program, words), 2, b"", said)
     Path("-x").write_bytes(b"plain\n")
     found = b":1: error: no email in brackets [no-email]\n"

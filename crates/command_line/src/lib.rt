@@ -7,6 +7,7 @@ pub mod failure;
 pub mod files;
 pub mod messages;
 pub mod outcome;
+pub mod piped;
 pub mod printer;
 pub mod shown;
 pub mod streams;

@@ -1,6 +1,6 @@
 -- The kinds of findings, with their names and levels.
 use Rattle.std.specs.Prelude.{Bool, List, [], ◌∷◌, Option, codes}
-use Rattle.std.specs.List.{find}
+use Rattle.std.specs.List.{find, flat_map}
 use Rattle.std.specs.Str.{bytes_eq}
 use Rattle.mailmap_contacts.specs.Comparisons.{ContactFinding, git_answers, no_contact, same_email, same_name}
 use Rattle.mailmap_entries.specs.Folding.{Text}
@@ -58,6 +58,10 @@ abbrev pub kinds : List Kind
 kinds = kind.NoEmail ∷ kind.UnclosedEmail ∷ kind.EmptyEmail ∷ kind.NothingToMap ∷ kind.UnclosedSecondEmail
     ∷ kind.IgnoredText ∷ kind.GitReads ∷ kind.NoEffect ∷ kind.ItselfMapped ∷ kind.Unneeded ∷ kind.NoContact
     ∷ kind.SameEmail ∷ kind.SameName ∷ kind.GitAnswers ∷ []
+
+-- their names, each after a space
+abbrev pub kind_names : List Kind → Text
+kind_names listed = flat_map (λ k. 32 ∷ kind_name k) listed
 
 -- the kind with this name
 abbrev pub kind_named : Text → Option Kind

@@ -1,14 +1,15 @@
 //! The kinds and the levels of findings, and their names.
-ghost use Rattle.std.specs.Prelude.{◌≡◌, IfSome, Some};
+ghost use Rattle.std.specs.Prelude.{◌≡◌, ◌∷◌, ◌++◌, IfSome, OnOk, Some};
 ghost use Rattle.mailmap_contacts.specs.Answers.{finding_view};
 ghost use Rattle.mailmap_findings.specs.Findings.{kind_of};
 ghost use Rattle.mailmap_report.specs.Kinds.{contact_kind, finding_kind, kind_level, kind_name, kind_named};
-ghost use Rattle.mailmap_report.specs.Kinds.{level_name};
+ghost use Rattle.mailmap_report.specs.Kinds.{kind_names, kinds, level_name};
 ghost use Rattle.mailmap_report.specs.declared.kinds.Kind.{Kind as TheKind};
 
 use mailmap_contacts::comparisons::{ContactFinding, Shared};
 use mailmap_findings::verify::FindingKind;
 use mailmap_grammar::lines::Error;
+use std::alloc::AllocError;
 
 /// How bad a finding is, from the least to the worst. Notes don't count for the exit status.
 #[derive(Clone, Copy)]
@@ -144,4 +145,27 @@ impl Kind {
             _ => Level::Warning,
         }
     }
+}
+
+/// Appends the names of all kinds, each after a space.
+pub fn push_kind_names(text: &mut Vec<u8>) -> Result<(), AllocError>
+    ensures { OnOk result (text.new.items ≡ text.old.items ++ kind_names kinds) }
+{
+    push_names(text, &KINDS)
+}
+
+fn push_names(text: &mut Vec<u8>, listed: &[Kind]) -> Result<(), AllocError>
+    ensures { OnOk result (text.new.items ≡ text.old.items ++ kind_names listed.now) }
+{
+    for kind in listed {
+        push_name(text, *kind)?;
+    }
+    Ok(())
+}
+
+fn push_name(text: &mut Vec<u8>, kind: Kind) -> Result<(), AllocError>
+    ensures { OnOk result (text.new.items ≡ text.old.items ++ 32 ∷ kind_name kind) }
+{
+    text.push(b' ')?;
+    text.extend_from_slice(kind.name().as_bytes())
 }

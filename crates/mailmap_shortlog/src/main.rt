@@ -4,14 +4,15 @@
 //! `-e` it counts by names and emails, and with `-n` the greatest count comes first. `shortlog_command::task` parses
 //! the arguments.
 //!
-//! A failure prints a line on standard error, and the exit status is 2. Lines that weren't counted are no failure: a line
-//! on standard error says how many.
+//! A failure prints a line on standard error, unless nobody reads the output any more, and the exit status is 2. Lines
+//! that weren't counted are no failure: a line on standard error says how many.
 #![tactic(auto)]
 
 use command_line::arguments::arguments;
 use command_line::failure::Failure;
 use command_line::files::{DEFAULT_PATH, System};
 use command_line::messages::{self, failure_line, misuse_lines};
+use command_line::piped::Piped;
 use command_line::streams::write_all;
 use shortlog_command::task::{Mode, Skipped, Task, UnknownOption, perform, skipped_line, task_of};
 use std::alloc::{AllocError, Global};
@@ -54,9 +55,11 @@ fn done(rt: &HostRuntime, task: Task<'_>) -> ExitCode {
     if matches!(task.mode, Mode::Shortlog(_)) && input.is_terminal() {
         let _ = write_all(&mut rt.stderr(), READS.as_bytes());
     }
-    match perform(&system, rt.alloc(), task, &mut input, &mut rt.stdout()) {
+    let mut output = Piped::new(rt.stdout());
+    match perform(&system, rt.alloc(), task, &mut input, &mut output) {
         Ok(None) => ExitCode::SUCCESS,
         Ok(Some(skipped)) => told(rt, skipped),
+        Err(_) if output.is_closed => ExitCode::from(2),
         Err(failure) => failed(rt, task.paths, failure),
     }
 }

@@ -4,15 +4,17 @@
 //! `USAGE` of `verify_command` has the modes and the options, and `verify_command::request` parses them.
 //!
 //! The exit status is 0 if no finding counts, which notes don't without `--severity`, and else 1. A failure prints a
-//! line on standard error, and the status is 2.
+//! line on standard error, unless nobody reads the output any more, and the status is 2.
 #![tactic(auto)]
 
 use command_line::arguments::arguments;
 use command_line::files::System;
 use command_line::messages::{self, cause_text, push_failure};
 use command_line::outcome::exit_code;
+use command_line::piped::Piped;
 use command_line::shown::push_shown;
 use command_line::streams::write_all;
+use mailmap_report::kinds::push_kind_names;
 use mailmap_report::places::push_position;
 use std::alloc::{AllocError, Global};
 use std::io::IsTerminal;
@@ -49,9 +51,12 @@ fn done(rt: &HostRuntime, request: &Request) -> ExitCode {
     if input.is_terminal() {
         let _ = write_all(&mut rt.stderr(), reads(request).as_bytes());
     }
-    let ended = perform(&system, rt.alloc(), request, &mut input, &mut rt.stdout());
+    let mut output = Piped::new(rt.stdout());
+    let ended = perform(&system, rt.alloc(), request, &mut input, &mut output);
     if let Err(failure) = ended {
-        say(rt, failure_line(rt.alloc(), request, failure));
+        if !output.is_closed {
+            say(rt, failure_line(rt.alloc(), request, failure));
+        }
     }
     exit_code(ended)
 }
@@ -92,13 +97,29 @@ fn misuse_lines(alloc: Global, error: &ParseError) -> Result<Vec<u8>, AllocError
         ParseError::Memory => return Err(AllocError),
     };
     let what = words.concat(alloc)?;
-    messages::misuse_lines(
-        alloc,
-        PROGRAM,
-        what.as_bytes(),
-        argument,
-        USAGE_LINE.as_bytes(),
-    )
+    let help = help_lines(alloc, error)?;
+    messages::misuse_lines(alloc, PROGRAM, what.as_bytes(), argument, help.as_slice())
+}
+
+// What there is in place of an unknown value, and the usage.
+fn help_lines(alloc: Global, error: &ParseError) -> Result<Vec<u8>, AllocError> {
+    let mut lines = Vec::new(alloc);
+    match error {
+        ParseError::UnknownValue(Setting::Severity, _) => {
+            lines.extend_from_slice(b"levels: error warning note\n")?
+        }
+        ParseError::UnknownValue(Setting::Format, _) => {
+            lines.extend_from_slice(b"formats: gcc json\n")?
+        }
+        ParseError::UnknownValue(Setting::Exclude, _) => {
+            lines.extend_from_slice(b"kinds:")?;
+            push_kind_names(&mut lines)?;
+            lines.push(b'\n')?;
+        }
+        _ => {}
+    }
+    lines.extend_from_slice(USAGE_LINE.as_bytes())?;
+    Ok(lines)
 }
 
 // What an option needs after it.
