@@ -44,7 +44,7 @@ class Mode(NamedTuple):
     printed: bytes
     # whether lines are written before all is known
     is_written_early: bool = False
-    # what is said of a run that succeeds
+    # the message beside the output if nothing is refused
     said: bytes = b""
 
 

@@ -329,10 +329,11 @@ static PyObject *mailmap_merge(PyObject *self, PyObject *from)
 {
     Mailmap *mailmap = (Mailmap *)self, *other = (Mailmap *)from;
     PyObject *class = find(MAILMAP);
-    int is_mailmap = class != NULL ? PyObject_IsInstance(from, class) : -1;
-    if (is_mailmap == 0)
+    /* An object may say by its `__class__` that it is an instance of any class. */
+    bool is_mailmap = class != NULL && PyObject_TypeCheck(from, (PyTypeObject *)class);
+    if (class != NULL && !is_mailmap)
         PyErr_Format(PyExc_TypeError, "expected a Mailmap, not %R", (PyObject *)Py_TYPE(from));
-    bool ok = is_mailmap > 0 && is_kind(mailmap->is_str, &(Text){.is_str = other->is_str}) && is_open(mailmap) &&
+    bool ok = is_mailmap && is_kind(mailmap->is_str, &(Text){.is_str = other->is_str}) && is_open(mailmap) &&
               is_open(other) && is_ok(gix_mailmap_merge(mailmap->map, other->map));
     mailmap->changes += ok;
     return ok ? Py_NewRef(Py_None) : NULL;

@@ -140,25 +140,27 @@ def broken_output():
 def nothing_to_write():
     """Where nothing is to be written, an output that could not be written is no failure."""
     Path("empty").write_bytes(b"")
-    for program, words, text in [
-        (CHECK, [], b""),
-        (CHECK, [], MAILMAP + b"--\n"),
-        (CHECK, ["mailmap"], b""),
-        (CHECK, ["--compact"], b"# Jane <jane@x>\nplain\n"),
-        (CHECK, ["--compact", "empty"], b""),
-        (VERIFY, ["-"], MAILMAP),
-        (VERIFY, ["--prune", "empty"], b""),
-        (VERIFY, ["--prune", "-"], b""),
-        (VERIFY, ["--explain", "mailmap"], b"\n \t\r\n"),
-        (VERIFY, ["--contacts", "-", "empty"], b"\n" + CONTACTS),
-        (VERIFY, ["--contacts", "-", "-S", "error", "empty"], b"jane <a@x>\nJane <a@x>\n"),
-        (VERIFY, ["--suggest", "-", "empty"], b"plain\n" + CONTACTS),
-        (VERIFY, ["-e", "no-email", "-"], b"plain\n"),
-        (SHORTLOG, ["mailmap"], b"\n \t\n"),
+    skipped = said(SHORTLOG, b"lines without a contact: 1; the first is line 1")
+    for program, words, text, message in [
+        (CHECK, [], b"", b""),
+        (CHECK, [], MAILMAP + b"--\n", b""),
+        (CHECK, ["mailmap"], b"", b""),
+        (CHECK, ["--compact"], b"# Jane <jane@x>\nplain\n", b""),
+        (CHECK, ["--compact", "empty"], b"", b""),
+        (VERIFY, ["-"], MAILMAP, b""),
+        (VERIFY, ["--prune", "empty"], b"", b""),
+        (VERIFY, ["--prune", "-"], b"", b""),
+        (VERIFY, ["--explain", "mailmap"], b"\n \t\r\n", b""),
+        (VERIFY, ["--contacts", "-", "empty"], b"\n" + CONTACTS, b""),
+        (VERIFY, ["--contacts", "-", "-S", "error", "empty"], b"jane <a@x>\nJane <a@x>\n", b""),
+        (VERIFY, ["--suggest", "-", "empty"], b"plain\n" + CONTACTS, b""),
+        (VERIFY, ["-e", "no-email", "-"], b"plain\n", b""),
+        (SHORTLOG, ["mailmap"], b"\n \t\n", b""),
+        (SHORTLOG, ["mailmap"], b"plain\n\n", skipped),
     ]:
         for full in "> /dev/full", ">&-":
             wants(f"nothing to write, {program} {words} {full}",
-                  run("sh", ["-c", f'exec "$@" {full}', "sh", program, *words], input=text), 0, b"")
+                  run("sh", ["-c", f'exec "$@" {full}', "sh", program, *words], input=text), 0, b"", message)
     return "an output that can't be written, and nothing to write: no failure"
 
 

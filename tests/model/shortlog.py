@@ -13,7 +13,7 @@ def shortlog(buffers, contacts, by_count=False, with_email=False):
 
 
 def skipped(contacts):
-    """What is said of the lines that are neither blank nor contacts, if there are any."""
+    """The message about the lines that are neither blank nor contacts; empty if there are none."""
     numbers = [number for number, line in enumerate(lines(contacts), 1) if trim(line) and not contact_of(line)]
     if not numbers:
         return b""

@@ -6,6 +6,7 @@ import pickle
 import tempfile
 import unittest
 from pathlib import Path
+from unittest.mock import Mock
 
 import gix_mailmap
 from gix_mailmap import Answer, Closed, Entry, Finding, Kind, Mailmap, NotALine, NotAnEntry, Position, Unwritable
@@ -448,7 +449,7 @@ class Handles(unittest.TestCase):
             self.assertEqual(next(mapped), b"JD <jane@x>")
             self.assertEqual(mailmap.lookup(b"old", b"q@z"), Answer(b"New", b"new@x", True, True))
             self.assertEqual((len(mailmap), len(other)), (3, 2))
-            for wrong in (Mailmap("J <j@x>"), MAP, None):
+            for wrong in (Mailmap("J <j@x>"), MAP, None, Mock(spec=Mailmap)):
                 with self.assertRaises(TypeError):
                     mailmap.merge(wrong)
 

@@ -190,7 +190,7 @@ def file_names(program):
     wants("a file named as an option", run(program, ["./--prune"]), 2, b"", said)
 
 
-# what is said of an unknown value before the usage
+# what follows the message about an unknown value, before the usage
 HELPS = {
     b"unknown level": b"levels: error warning note\n",
     b"unknown format": b"formats: gcc json\n",
