@@ -27,6 +27,7 @@ completes 'mailmap_verify --severity=w' warning
 completes 'mailmap_verify --severity=' 'error warning note'
 completes 'mailmap_verify -f j' json
 completes 'mailmap_verify -e same-' 'same-email same-name'
+completes 'mailmap_verify -e s' 'same-email shared-email same-name similar-name'
 completes 'mailmap_verify -e no-email,un' 'no-email,unclosed-email no-email,unclosed-second-email no-email,unneeded'
 completes 'mailmap_verify --contacts ' ''
 completes 'mailmap_verify ' ''

@@ -8,7 +8,7 @@ from pathlib import Path
 
 HERE = Path(__file__).resolve().parent
 # A program makes fewer requests.
-MOST = 2_000
+MOST = 5_000
 
 
 class Refusing:
