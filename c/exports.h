@@ -1,6 +1,6 @@
 /* The proved calls that crates/gix_mailmap_c exports. No pointer may be NULL, no call may get one handle twice, and no
- * two calls may use one handle at the same time. A returned number is one of gix_mailmap_status, 6 if the handle is closed, or 7 if it is open already.
- * gix_mailmap.c never causes the last two. */
+ * two calls may use one handle at the same time. A returned number is one of gix_mailmap_status, 6 if the handle is
+ * closed, or 7 if it is open already. gix_mailmap.c never causes the last two. */
 #ifndef EXPORTS_H
 #define EXPORTS_H
 
@@ -51,8 +51,20 @@ typedef struct lengths {
     size_t text;
 } lengths;
 
-uint32_t gix_mailmap_text_report(const lengths *all, size_t count, const void *names, size_t names_len,
+/* The format is a number of gix_mailmap_format. */
+uint32_t gix_mailmap_text_report(uint32_t format, const lengths *all, size_t count, const void *names, size_t names_len,
                                  const void *texts, size_t texts_len, void *out, size_t out_len, size_t *needed);
+uint32_t gix_mailmap_text_report_beside(uint32_t format, const lengths *all, size_t count, const void *names,
+                                        size_t names_len, const void *texts, size_t texts_len, const void *file,
+                                        size_t file_len, const void *contacts, size_t contacts_len, void *out,
+                                        size_t out_len, size_t *needed);
+uint32_t gix_mailmap_text_notices(const lengths *all, size_t count, const void *names, size_t names_len,
+                                  const void *texts, size_t texts_len, void *out, size_t out_len, void *out_texts,
+                                  size_t out_texts_len, size_t *needed, size_t *texts_needed);
+uint32_t gix_mailmap_text_notices_beside(const lengths *all, size_t count, const void *names, size_t names_len,
+                                         const void *texts, size_t texts_len, const void *file, size_t file_len,
+                                         const void *contacts, size_t contacts_len, void *out, size_t out_len,
+                                         void *out_texts, size_t out_texts_len, size_t *needed, size_t *texts_needed);
 uint32_t gix_mailmap_text_explain(const lengths *all, size_t count, const void *names, size_t names_len,
                                   const void *texts, size_t texts_len, const void *contacts, size_t contacts_len,
                                   void *out, size_t out_len, size_t *needed);
@@ -62,5 +74,7 @@ uint32_t gix_mailmap_text_unneeded(const lengths *all, size_t count, const void 
 uint32_t gix_mailmap_text_suggest(const lengths *all, size_t count, const void *texts, size_t texts_len,
                                   const void *contacts, size_t contacts_len, void *out, size_t out_len, size_t *needed);
 uint32_t gix_mailmap_text_verify(const void *mailmap, size_t mailmap_len, void *out, size_t out_len, size_t *needed);
+uint32_t gix_mailmap_text_parse(const void *mailmap, size_t mailmap_len, gix_mailmap_cursor *cursor,
+                                gix_mailmap_parsed *parsed);
 
 #endif

@@ -259,15 +259,47 @@ static block block_of(const gix_mailmap_named *mailmaps, size_t count, bool with
     return (block){each, total, names, texts};
 }
 
-gix_mailmap_status gix_mailmap_report(const gix_mailmap_named *mailmaps, size_t count, char *GIX_MAILMAP_RESTRICT out,
-                                      size_t out_len, size_t *GIX_MAILMAP_RESTRICT needed)
+gix_mailmap_status gix_mailmap_report_as(const gix_mailmap_named *mailmaps, size_t count,
+                                         const gix_mailmap_named *contacts, gix_mailmap_format format,
+                                         char *GIX_MAILMAP_RESTRICT out, size_t out_len,
+                                         size_t *GIX_MAILMAP_RESTRICT needed)
 {
     block b = block_of(mailmaps, count, true);
     *needed = 0;
     if (b.each == NULL)
         return GIX_MAILMAP_OUT_OF_MEMORY;
-    gix_mailmap_status status = gix_mailmap_text_report(b.each, count, b.names, b.total.name, b.texts, b.total.text,
-                                                        room_at(out), out_len, needed);
+    gix_mailmap_status status = contacts == NULL
+        ? gix_mailmap_text_report(format, b.each, count, b.names, b.total.name, b.texts, b.total.text, room_at(out),
+                                  out_len, needed)
+        : gix_mailmap_text_report_beside(format, b.each, count, b.names, b.total.name, b.texts, b.total.text,
+                                         text_at(contacts->name), contacts->name_len, text_at(contacts->text),
+                                         contacts->text_len, room_at(out), out_len, needed);
+    free(b.each);
+    return status;
+}
+
+gix_mailmap_status gix_mailmap_report(const gix_mailmap_named *mailmaps, size_t count, char *GIX_MAILMAP_RESTRICT out,
+                                      size_t out_len, size_t *GIX_MAILMAP_RESTRICT needed)
+{
+    return gix_mailmap_report_as(mailmaps, count, NULL, GIX_MAILMAP_FORMAT_GCC, out, out_len, needed);
+}
+
+gix_mailmap_status gix_mailmap_notices(const gix_mailmap_named *mailmaps, size_t count,
+                                       const gix_mailmap_named *contacts, gix_mailmap_notice *GIX_MAILMAP_RESTRICT out,
+                                       size_t out_len, char *GIX_MAILMAP_RESTRICT texts, size_t texts_len,
+                                       size_t *GIX_MAILMAP_RESTRICT needed, size_t *GIX_MAILMAP_RESTRICT texts_needed)
+{
+    block b = block_of(mailmaps, count, true);
+    *needed = *texts_needed = 0;
+    if (b.each == NULL)
+        return GIX_MAILMAP_OUT_OF_MEMORY;
+    gix_mailmap_status status = contacts == NULL
+        ? gix_mailmap_text_notices(b.each, count, b.names, b.total.name, b.texts, b.total.text, room_at(out), out_len,
+                                   room_at(texts), texts_len, needed, texts_needed)
+        : gix_mailmap_text_notices_beside(b.each, count, b.names, b.total.name, b.texts, b.total.text,
+                                          text_at(contacts->name), contacts->name_len, text_at(contacts->text),
+                                          contacts->text_len, room_at(out), out_len, room_at(texts), texts_len, needed,
+                                          texts_needed);
     free(b.each);
     return status;
 }
@@ -320,4 +352,11 @@ gix_mailmap_status gix_mailmap_verify(const char *mailmap, size_t mailmap_len,
                                       size_t *GIX_MAILMAP_RESTRICT needed)
 {
     return gix_mailmap_text_verify(text_at(mailmap), mailmap_len, room_at(out), out_len, needed);
+}
+
+gix_mailmap_status gix_mailmap_parse(const char *mailmap, size_t mailmap_len,
+                                     gix_mailmap_cursor *GIX_MAILMAP_RESTRICT cursor,
+                                     gix_mailmap_parsed *GIX_MAILMAP_RESTRICT parsed)
+{
+    return gix_mailmap_text_parse(text_at(mailmap), mailmap_len, cursor, parsed);
 }

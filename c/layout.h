@@ -10,6 +10,7 @@
 
 SIZE(gix_mailmap_status, 4);
 SIZE(gix_mailmap_kind, 4);
+SIZE(gix_mailmap_format, 4);
 
 SIZE(gix_mailmap_field, 16);
 OFFSET(gix_mailmap_field, len, 0);
@@ -36,6 +37,32 @@ OFFSET(gix_mailmap_named, text_len, 24);
 SIZE(gix_mailmap_position, 16);
 OFFSET(gix_mailmap_position, mailmap, 0);
 OFFSET(gix_mailmap_position, line, 8);
+
+SIZE(gix_mailmap_place, 16);
+OFFSET(gix_mailmap_place, start, 0);
+OFFSET(gix_mailmap_place, len, 8);
+
+SIZE(gix_mailmap_notice, 96);
+OFFSET(gix_mailmap_notice, line, 0);
+OFFSET(gix_mailmap_notice, other_line, 8);
+OFFSET(gix_mailmap_notice, file, 16);
+OFFSET(gix_mailmap_notice, level, 32);
+OFFSET(gix_mailmap_notice, kind, 48);
+OFFSET(gix_mailmap_notice, message, 64);
+OFFSET(gix_mailmap_notice, other_file, 80);
+
+SIZE(gix_mailmap_cursor, 16);
+OFFSET(gix_mailmap_cursor, start, 0);
+OFFSET(gix_mailmap_cursor, lines, 8);
+
+SIZE(gix_mailmap_parsed, 96);
+OFFSET(gix_mailmap_parsed, line, 0);
+OFFSET(gix_mailmap_parsed, kind, 8);
+OFFSET(gix_mailmap_parsed, text, 16);
+OFFSET(gix_mailmap_parsed, new_name, 32);
+OFFSET(gix_mailmap_parsed, new_email, 48);
+OFFSET(gix_mailmap_parsed, old_name, 64);
+OFFSET(gix_mailmap_parsed, old_email, 80);
 
 /* structs of the proved calls */
 SIZE(struct gix_mailmap, 16);

@@ -84,7 +84,7 @@ typedef enum gix_mailmap_status {
     GIX_MAILMAP_OK = 0,            /* the call did its work */
     GIX_MAILMAP_TOO_SHORT = 1,     /* a buffer is too short; no text and no list was written */
     GIX_MAILMAP_OUT_OF_MEMORY = 2, /* the mailmap or the stream is as it was */
-    GIX_MAILMAP_NO_ENTRY = 3,      /* the mailmap has no entry at this index */
+    GIX_MAILMAP_NO_ENTRY = 3,      /* the mailmap has no entry at this index, or no line that is left */
     GIX_MAILMAP_NOT_AN_ENTRY = 4,  /* these texts make no entry */
     GIX_MAILMAP_UNWRITABLE = 5     /* an entry can't be written as a line */
 } gix_mailmap_status;
@@ -144,6 +144,52 @@ typedef struct gix_mailmap_position {
     size_t mailmap;
     size_t line;
 } gix_mailmap_position;
+
+/* How findings are written: as lines, as compilers print them, or as objects of JSON, one on each line. */
+typedef enum gix_mailmap_format {
+    GIX_MAILMAP_FORMAT_GCC = 0,
+    GIX_MAILMAP_FORMAT_JSON = 1
+} gix_mailmap_format;
+
+/* A text in a longer one: the offset at which it begins, counted from 0, and its length. */
+typedef struct gix_mailmap_place {
+    size_t start;
+    size_t len;
+} gix_mailmap_place;
+
+/* A finding in mailmaps or contacts, in words: the number of its line, counted from 1, and the places of its texts in a
+ * buffer of texts: the name of its file, its level, which is `error`, `warning` or `note`, its kind by the name that
+ * mailmap_verify prints, such as `same-email`, and what is said. `other_line` and `other_file` are the other line that
+ * the message refers to, the first one if there are two; without one they are 0 and empty. */
+typedef struct gix_mailmap_notice {
+    size_t line;
+    size_t other_line;
+    gix_mailmap_place file;
+    gix_mailmap_place level;
+    gix_mailmap_place kind;
+    gix_mailmap_place message;
+    gix_mailmap_place other_file;
+} gix_mailmap_notice;
+
+/* How far gix_mailmap_parse has read: the offset at which the next line begins, and how many lines come before it. */
+typedef struct gix_mailmap_cursor {
+    size_t start;
+    size_t lines;
+} gix_mailmap_cursor;
+
+/* A line of a mailmap that gives an entry or has a fault: its number, counted from 1, and the places of its texts in
+ * the mailmap. `text` is the line without the white space around it. For an entry `kind` is 0, and a text that it
+ * doesn't have has length 0; it always has an old email, which may be empty. For a fault `kind` is one of the first
+ * four of gix_mailmap_kind, and there is no other text. */
+typedef struct gix_mailmap_parsed {
+    size_t line;
+    gix_mailmap_kind kind;
+    gix_mailmap_place text;
+    gix_mailmap_place new_name;
+    gix_mailmap_place new_email;
+    gix_mailmap_place old_name;
+    gix_mailmap_place old_email;
+} gix_mailmap_parsed;
 
 /* The version of the library, such as `0.1.0`. */
 const char *gix_mailmap_version(void);
@@ -230,6 +276,23 @@ gix_mailmap_status gix_mailmap_write(const gix_mailmap *map, char *GIX_MAILMAP_R
                                      size_t *GIX_MAILMAP_RESTRICT needed)
     GIX_MAILMAP_NONNULL(1, 4) GIX_MAILMAP_MUST_CHECK;
 
+/* Reads the next line of a mailmap that gives an entry or has a fault, and says where its texts are. Comments and blank
+ * lines are passed over. A cursor of zeros is at the first line:
+ *
+ *     gix_mailmap_cursor cursor = {0, 0};
+ *     gix_mailmap_parsed parsed;
+ *     while (gix_mailmap_parse(text, text_len, &cursor, &parsed) == GIX_MAILMAP_OK)
+ *         if (parsed.kind == 0)
+ *             printf("%zu: %.*s\n", parsed.line, (int)parsed.old_email.len, text + parsed.old_email.start);
+ *
+ * The entries are those that gix_mailmap_open adds, one after another. The call copies no text and allocates nothing. A
+ * cursor past the end of the mailmap is at its end.
+ * OK; NO_ENTRY: no such line is left, and `*cursor` and `*parsed` are as they were. */
+gix_mailmap_status gix_mailmap_parse(const char *mailmap, size_t mailmap_len,
+                                     gix_mailmap_cursor *GIX_MAILMAP_RESTRICT cursor,
+                                     gix_mailmap_parsed *GIX_MAILMAP_RESTRICT parsed)
+    GIX_MAILMAP_NONNULL(3, 4) GIX_MAILMAP_MUST_CHECK;
+
 /* Maps each line of `contacts`, such as `Jane <jane@x>`, with the mailmap, and writes an answer for each, with a line
  * feed after it. A line that isn't a contact is its own answer. `needed` is the length of all answers, and 0 on
  * OUT_OF_MEMORY.
@@ -275,6 +338,36 @@ gix_mailmap_status gix_mailmap_verify(const char *mailmap, size_t mailmap_len,
 gix_mailmap_status gix_mailmap_report(const gix_mailmap_named *mailmaps, size_t count, char *GIX_MAILMAP_RESTRICT out,
                                       size_t out_len, size_t *GIX_MAILMAP_RESTRICT needed)
     GIX_MAILMAP_NONNULL(5) GIX_MAILMAP_MUST_CHECK;
+
+/* Writes what is wrong with some mailmaps and, unless `contacts` is NULL, also with contacts, in a format. Without
+ * contacts and as lines it is gix_mailmap_report. `contacts` has a name, such as that of a file, and a contact on each
+ * line, such as all contacts of a history. The text is what mailmap_verify --contacts prints: the findings in the
+ * mailmaps, among them the lines that no contact needs, and after them those about the contacts, in the order of their
+ * lines, such as
+ *
+ *     history:7: warning: jane <JANE@x> (2) has the email of Jane Doe <jane@x> (9) [same-email]
+ *     history:9: warning: git answers Jane Doe <JANE@x> [git-answers]
+ *
+ * As JSON, a finding has the members `file`, `line`, `level`, `kind` and `message`, and `at`, with a `file` and a
+ * `line`, if the message refers to another line. A text is `{"text": ".."}`, or `{"bytes": ".."}` in Base64 if it isn't
+ * UTF-8; only what JSON needs is escaped. Later versions may write more members. `needed` is the length of the text, and
+ * 0 on OUT_OF_MEMORY.
+ * OK; TOO_SHORT; OUT_OF_MEMORY. */
+gix_mailmap_status gix_mailmap_report_as(const gix_mailmap_named *mailmaps, size_t count,
+                                         const gix_mailmap_named *contacts, gix_mailmap_format format,
+                                         char *GIX_MAILMAP_RESTRICT out, size_t out_len,
+                                         size_t *GIX_MAILMAP_RESTRICT needed)
+    GIX_MAILMAP_NONNULL(7) GIX_MAILMAP_MUST_CHECK;
+
+/* Lists the same findings in words, in the same order, and copies their texts, one after another, to `texts`. Nothing in
+ * them is escaped. `contacts` may be NULL here, too. `out_len` counts findings, `texts_len` bytes. `needed` is the number
+ * of all findings, and `texts_needed` the length of their texts; both are 0 on OUT_OF_MEMORY.
+ * OK; TOO_SHORT: `out` or `texts` is too short, and both are as they were; OUT_OF_MEMORY. */
+gix_mailmap_status gix_mailmap_notices(const gix_mailmap_named *mailmaps, size_t count,
+                                       const gix_mailmap_named *contacts, gix_mailmap_notice *GIX_MAILMAP_RESTRICT out,
+                                       size_t out_len, char *GIX_MAILMAP_RESTRICT texts, size_t texts_len,
+                                       size_t *GIX_MAILMAP_RESTRICT needed, size_t *GIX_MAILMAP_RESTRICT texts_needed)
+    GIX_MAILMAP_NONNULL(8, 9) GIX_MAILMAP_MUST_CHECK;
 
 /* Writes which lines of some mailmaps give contacts their new names and emails, as mailmap_verify --explain prints it:
  * a line for each line of `contacts`, such as

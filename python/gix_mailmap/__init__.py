@@ -15,13 +15,13 @@ TypeError for an argument of a wrong type, the ValueError that `index` and a sli
 OSError of `from_path` and `of_repository`, and the ImportError of a failed import.
 """
 
-from ._mailmap import Mailmap, check, compact, explain, prune, report, suggest, unneeded, verify
+from ._mailmap import Mailmap, check, compact, explain, findings, parse, prune, report, suggest, unneeded, verify
 from ._native import version as __version__
-from ._results import Answer, Closed, Entry, Error, Finding, Kind, NoEntry, NotALine, NotAnEntry, NotAText, OutOfMemory
-from ._results import Position, Unwritable
+from ._results import Answer, Closed, Entry, Error, Finding, Kind, Line, NoEntry, NotALine, NotAnEntry, NotAText, Notice
+from ._results import OutOfMemory, Place, Position, Unwritable
 
 __all__ = [
-    "Answer", "Closed", "Entry", "Error", "Finding", "Kind", "Mailmap", "NoEntry", "NotALine", "NotAText", "NotAnEntry",
-    "OutOfMemory", "Position", "Unwritable", "__version__", "check", "compact", "explain", "prune", "report",
-    "suggest", "unneeded", "verify",
+    "Answer", "Closed", "Entry", "Error", "Finding", "Kind", "Line", "Mailmap", "NoEntry", "NotALine", "NotAText",
+    "NotAnEntry", "Notice", "OutOfMemory", "Place", "Position", "Unwritable", "__version__", "check", "compact",
+    "explain", "findings", "parse", "prune", "report", "suggest", "unneeded", "verify",
 ]

@@ -3,15 +3,19 @@
 from __future__ import annotations
 
 import errno
+import json
 import os
 import sys
 import warnings
+from array import array
+from bisect import bisect_left
 from collections.abc import Sequence
+from itertools import accumulate
 from pathlib import Path
-from typing import TYPE_CHECKING, Any, AnyStr, Iterable, Iterator, NoReturn, Self, Union, overload
+from typing import TYPE_CHECKING, Any, AnyStr, Callable, Iterable, Iterator, NoReturn, Optional, Self, Union, overload
 
 from . import _native
-from ._results import Entry, Finding, Position, encoded
+from ._results import Entry, Finding, Kind, Line, Notice, Position, encoded, notice_of
 
 if TYPE_CHECKING:
     from ._native import AnyText, Buffer, BytesText, StrText, Text, of_contacts, of_mailmap, of_mailmaps, of_named
@@ -188,15 +192,66 @@ def verify(mailmap: Text) -> list[Finding]:
 
 
 @of_named
-def report(mailmaps: Iterable[tuple[Any, Any]]) -> Union[str, bytes]:
+def report(mailmaps: Iterable[tuple[Any, Any]], contacts: Any = None, format: str = "gcc") -> Union[str, bytes]:
     """What is wrong with mailmaps, each with its name, as `mailmap_verify` prints it: a line for each finding. They are
-    read one after another, as if they were one. Without any mailmap the result is empty bytes, even for a type `str`.
+    read one after another, as if they were one. Without any text the result is empty bytes, even for a type `str`.
 
     >>> print(report([("team", "Jane <jd@y>\\n"), ("own", "plain\\nJane Doe <jd@y>\\n")]), end="")
     team:1: warning: no effect: own:2 says something else [no-effect]
     own:1: error: no email in brackets [no-email]
+
+    With contacts, a pair of a name and a text with a contact on each line, also what `mailmap_verify --contacts` finds
+    in them. In the format "json" each finding is an object on a line of its own; `findings` has the same as `Notice`s.
     """
-    return _native.report(*_named(mailmaps))
+    texts = [*([] if contacts is None else _named([contacts])), *_named(mailmaps)]
+    if format not in ("gcc", "json"):
+        raise ValueError(f"the format is 'gcc' or 'json', not {format!r:.80}")
+    if contacts is None:
+        return _native.report(*texts) if format == "gcc" else _native.report_json(*texts)
+    return _native.report_beside(*texts) if format == "gcc" else _native.report_json_beside(*texts)
+
+
+@overload
+def findings(
+    mailmaps: Iterable[tuple[str, StrText]], contacts: Optional[tuple[str, StrText]] = None
+) -> list[Notice[str]]: ...
+@overload
+def findings(
+    mailmaps: Iterable[tuple[Buffer, BytesText]], contacts: Optional[tuple[Buffer, BytesText]] = None
+) -> list[Notice[bytes]]: ...
+def findings(mailmaps: Iterable[tuple[Any, Any]], contacts: Any = None) -> list[Notice[Any]]:
+    """The findings of `report`, in its order: what is wrong with mailmaps and, if they are given, with contacts.
+
+    >>> own, history = "Joe <joe@x>\\n", "Jane Doe <jane@x>\\njane <JANE@x>\\nJane Doe <jane@x>"
+    >>> for found in findings([("own", own)], ("history", history)):
+    ...     print(found.file, found.line, found.level, found.kind, found.message, sep="; ")
+    own; 1; warning; unneeded; no contact needs it
+    history; 2; warning; same-email; jane <JANE@x> (1) has the email of Jane Doe <jane@x> (2)
+    """
+    said = report(mailmaps, contacts, "json")
+    is_str = isinstance(said, str)
+    lines = (said.encode() if is_str else said).split(b"\n")
+    return [notice_of(json.loads(line), is_str) for line in lines if line]
+
+
+def parse(mailmap: Union[str, Buffer]) -> list[Line]:
+    """The lines of a mailmap that give an entry or have a fault, in their order, with the places of their texts, which
+    are slices of the mailmap. Nothing is copied:
+
+    >>> mailmap = "# us\\nJane Doe <jane@x> <jd@y>\\nplain\\n"
+    >>> entry, fault = parse(mailmap)
+    >>> entry.number, mailmap[entry.new_name], mailmap[entry.new_email], entry.old_name, mailmap[entry.old_email]
+    (2, 'Jane Doe', 'jane@x', None, 'jd@y')
+    >>> fault.number, fault.kind, mailmap[fault.text]
+    (3, <Kind.NO_EMAIL: 1>, 'plain')
+    """
+    if hasattr(mailmap, "read"):
+        raise TypeError("expected str or bytes, not an open file")
+    rows = _native.parse(mailmap)
+    if isinstance(mailmap, str) and not mailmap.isascii():
+        ends = array("Q", accumulate((len(encoded(character)) for character in mailmap), initial=0))
+        return [_line(lambda offset: bisect_left(ends, offset), *row) for row in rows]
+    return [_line(lambda offset: offset, *row) for row in rows]
 
 
 @of_mailmaps
@@ -247,6 +302,17 @@ def _names_file(text: Any) -> bool:
         return False
     path = os.fsdecode(text)
     return not {"<", "\n"} & set(path) and os.path.isfile(path)
+
+
+def _line(
+    index_of: Callable[[int], int], number: int, kind: int, text: tuple[int, int], *texts: tuple[int, int]
+) -> Line:
+    """A line with slices for places in bytes. `index_of` has the index in the mailmap for an offset."""
+    whole, *places = (slice(index_of(start), index_of(end)) for start, end in (text, *texts))
+    if kind != 0:
+        return Line(number, Kind(kind), whole, None, None, None, None)
+    new_name, new_email, old_name = (place if place.start < place.stop else None for place in places[:3])
+    return Line(number, None, whole, new_name, new_email, old_name, places[3])
 
 
 def _named(mailmaps: Iterable[tuple[Any, Any]]) -> list[Any]:

@@ -143,7 +143,9 @@ static PyObject *new_named_tuple(PyObject *class, PyObject *const items[4], PyOb
 }
 
 /* The functions of the library that write into a buffer. */
-typedef enum Which { CHECK, COMPACT, PRUNE, VERIFY, REPORT, EXPLAIN, SUGGEST, UNNEEDED, WRITE } Which;
+typedef enum Which {
+    CHECK, COMPACT, PRUNE, VERIFY, REPORT, JSON, BESIDE, JSON_BESIDE, EXPLAIN, SUGGEST, UNNEEDED, WRITE
+} Which;
 
 /* The arguments of such a function: texts, mailmaps with their names, or an open mailmap. */
 typedef struct Given {
@@ -156,12 +158,19 @@ typedef struct Given {
 static gix_mailmap_status write_into(Which which, const Given *given, void *out, size_t out_len, size_t *needed)
 {
     const Text *a = &given->texts[0], *b = &given->texts[1];
+    const gix_mailmap_format format = which == JSON || which == JSON_BESIDE ? GIX_MAILMAP_FORMAT_JSON
+                                                                            : GIX_MAILMAP_FORMAT_GCC;
     switch (which) {
     case CHECK: return gix_mailmap_check(a->at, a->len, b->at, b->len, out, out_len, needed);
     case COMPACT: return gix_mailmap_compact(a->at, a->len, out, out_len, needed);
     case PRUNE: return gix_mailmap_prune(a->at, a->len, out, out_len, needed);
     case VERIFY: return gix_mailmap_verify(a->at, a->len, out, out_len, needed);
-    case REPORT: return gix_mailmap_report(given->named, given->count, out, out_len, needed);
+    case REPORT:
+    case JSON: return gix_mailmap_report_as(given->named, given->count, NULL, format, out, out_len, needed);
+    /* the first one is the contacts */
+    case BESIDE:
+    case JSON_BESIDE: return gix_mailmap_report_as(given->named + 1, given->count - 1, given->named, format, out,
+                                                   out_len, needed);
     case EXPLAIN: return gix_mailmap_explain(given->named, given->count, a->at, a->len, out, out_len, needed);
     case SUGGEST: return gix_mailmap_suggest(given->named, given->count, a->at, a->len, out, out_len, needed);
     case UNNEEDED: return gix_mailmap_unneeded(given->named, given->count, a->at, a->len, out, out_len, needed);
@@ -228,10 +237,13 @@ static PyObject *make_findings(const Given *given)
     return both != NULL ? both : raise_no_memory();
 }
 
-/* Calls a function that takes only texts: the contacts, if it takes any, and then each mailmap's name and its text. */
+/* Calls a function that takes only texts: the contacts, if it takes any, with their name for BESIDE and JSON_BESIDE, and
+ * then each mailmap's name and its text. */
 static PyObject *call(Which which, PyObject *args)
 {
     size_t count = (size_t)PyTuple_Size(args), guess = 4096;
+    if (count < 2 && (which == BESIDE || which == JSON_BESIDE))
+        return PyErr_Format(PyExc_TypeError, "expected contacts with their name");
     Text *texts = PyMem_Calloc(count + 2, sizeof *texts);
     gix_mailmap_named *named = PyMem_Calloc(count / 2 + 1, sizeof *named);
     bool ok = (texts != NULL && named != NULL) || raise_no_memory();
@@ -243,18 +255,40 @@ static PyObject *call(Which which, PyObject *args)
     PyObject *made = !ok ? NULL
         : which == VERIFY ? make_findings(&given)
         : which == UNNEEDED ? make_rows(which, &given)
-        : make_text(which, &given, texts[0].is_str, which != REPORT ? guess : 4096);
+        : make_text(which, &given, texts[0].is_str, which < REPORT || which > JSON_BESIDE ? guess : 4096);
     release(texts, texts != NULL ? count : 0);
     PyMem_Free(texts), PyMem_Free(named);
     return made;
 }
 
 #define FUNCTIONS(each) each(check, CHECK) each(compact, COMPACT) each(prune, PRUNE) each(verify, VERIFY) \
-    each(report, REPORT) each(explain, EXPLAIN) each(suggest, SUGGEST) each(unneeded, UNNEEDED)
+    each(report, REPORT) each(report_json, JSON) each(report_beside, BESIDE) each(report_json_beside, JSON_BESIDE) \
+    each(explain, EXPLAIN) each(suggest, SUGGEST) each(unneeded, UNNEEDED)
 #define DEFINED(name, which) \
     static PyObject *name(PyObject *Py_UNUSED(module), PyObject *args) { return call(which, args); }
 #define LISTED(name, which) {#name, name, METH_VARARGS, NULL},
 FUNCTIONS(DEFINED)
+
+/* The lines of a mailmap that give an entry or have a fault: the number of each, the kind of its fault or 0, and where
+ * its texts begin and end, in bytes. */
+static PyObject *parse(PyObject *Py_UNUSED(module), PyObject *from)
+{
+    Text text;
+    gix_mailmap_cursor cursor = {0, 0};
+    gix_mailmap_parsed line;
+    PyObject *list = get_text(from, &text) ? PyList_New(0) : NULL;
+    while (list != NULL && gix_mailmap_parse(text.at, text.len, &cursor, &line) == GIX_MAILMAP_OK) {
+#define ENDS(place) place.start, place.start + place.len
+        PyObject *row = Py_BuildValue("ni(nn)(nn)(nn)(nn)(nn)", line.line, (int)line.kind, ENDS(line.text),
+                                      ENDS(line.new_name), ENDS(line.new_email), ENDS(line.old_name),
+                                      ENDS(line.old_email));
+        if (row == NULL || PyList_Append(list, row) < 0)
+            Py_CLEAR(list);
+        Py_XDECREF(row);
+    }
+    release(&text, 1);
+    return list != NULL ? list : raise_no_memory();
+}
 
 /* An object of the type of mailmaps. */
 typedef struct Mailmap {
@@ -726,7 +760,7 @@ static void module_free(void *module)
     Py_CLEAR(*(PyObject **)PyModule_GetState(module));
 }
 
-static PyMethodDef functions[] = {FUNCTIONS(LISTED) {0}};
+static PyMethodDef functions[] = {FUNCTIONS(LISTED) {"parse", parse, METH_O, NULL}, {0}};
 static PyModuleDef definition = {
     .m_base = PyModuleDef_HEAD_INIT, .m_name = "gix_mailmap._native", .m_size = sizeof(PyObject *),
     .m_methods = functions, .m_traverse = module_traverse, .m_free = module_free,

@@ -2,8 +2,9 @@
 
 from __future__ import annotations
 
+import base64
 from enum import IntEnum
-from typing import AnyStr, Generic, NamedTuple, Optional
+from typing import Any, AnyStr, Generic, NamedTuple, Optional
 
 
 class Answer(NamedTuple, Generic[AnyStr]):
@@ -100,6 +101,54 @@ class Position(NamedTuple):
 
     mailmap: int
     line: int
+
+
+class Place(NamedTuple, Generic[AnyStr]):
+    """A line of a file: the file's name and the line's number, counted from 1."""
+
+    file: AnyStr
+    line: int
+
+
+class Notice(NamedTuple, Generic[AnyStr]):
+    """A finding in mailmaps or contacts, in the words of `mailmap_verify`, without escapes: its file and line, its level
+    (`error`, `warning` or `note`), its kind, such as `same-email`, what is said, and the other line that is referred to,
+    the first one if there are two."""
+
+    file: AnyStr
+    line: int
+    level: str
+    kind: str
+    message: AnyStr
+    at: Optional[Place[AnyStr]]
+
+
+def notice_of(found: dict[str, Any], is_str: bool) -> Notice[Any]:
+    """A notice of an object in the report as JSON."""
+    at = found.get("at")
+    other = None if at is None else Place(_text_of(at["file"], is_str), at["line"])
+    file, message = _text_of(found["file"], is_str), _text_of(found["message"], is_str)
+    return Notice(file, found["line"], found["level"], found["kind"], message, other)
+
+
+def _text_of(member: dict[str, str], is_str: bool) -> Any:
+    """A text of the report as JSON. What isn't UTF-8 is in Base64."""
+    text = member["text"].encode() if "text" in member else base64.b64decode(member["bytes"])
+    return text.decode("utf-8", "surrogateescape") if is_str else text
+
+
+class Line(NamedTuple):
+    """A line of a mailmap that gives an entry or has a fault: its number, counted from 1, the kind of the fault, which is
+    None for an entry, and where its texts are in the mailmap. `text` is the line without the white space around it. The
+    others are those of an entry, and None where it has none; each entry has an old email."""
+
+    number: int
+    kind: Optional[Kind]
+    text: slice
+    new_name: Optional[slice]
+    new_email: Optional[slice]
+    old_name: Optional[slice]
+    old_email: Optional[slice]
 
 
 class Error(Exception):

@@ -218,6 +218,193 @@ static void report(void)
     WANT(gix_mailmap_report(huge, 2, NULL, 0, &needed) == GIX_MAILMAP_OUT_OF_MEMORY && needed == 0);
 }
 
+/* contacts with findings of each level, beside a mailmap with a line that none of them needs */
+static const gix_mailmap_named BESIDE[1] = {{TEXT("own"), TEXT("Joe <joe@x>\nplain\n")}};
+static const gix_mailmap_named HISTORY = {
+    TEXT("his\x1btory"), TEXT("Jane <jane@x>\njane\xff <JANE@x>\n\nplain\nJane <jane@x>\nJane <q@x>")};
+static const char BESIDE_LINES[] =
+    "own:1: warning: no contact needs it [unneeded]\n"
+    "own:2: error: no email in brackets [no-email]\n"
+    "his\\x1btory:2: warning: jane\xff <JANE@x> (1) has the email of Jane <jane@x> (2) [same-email]\n"
+    "his\\x1btory:4: error: no contact [no-contact]\n"
+    "his\\x1btory:6: note: Jane <q@x> (1) has the name of Jane <jane@x> (2) [same-name]\n";
+/* what the objects of these findings hold, among other members */
+static const char *const MEMBERS[] = {
+    "\"kind\":\"unneeded\"", "\"level\":\"warning\"", "\"line\":1", "\"text\":\"no contact needs it\"", "}\n",
+    "\"kind\":\"no-email\"", "\"level\":\"error\"", "\"line\":2", "\"text\":\"no email in brackets\"", "}\n",
+    "\"at\":{\"file\":{\"text\":\"his\\u001btory\"},\"line\":1}", "\"kind\":\"same-email\"", "\"line\":2",
+    "\"bytes\":\"amFuZf8gPEpBTkVAeD4gKDEpIGhhcyB0aGUgZW1haWwgb2YgSmFuZSA8amFuZUB4PiAoMik=\"", "}\n",
+    "\"kind\":\"no-contact\"", "\"line\":4", "}\n",
+    "\"kind\":\"same-name\"", "\"level\":\"note\"", "\"text\":\"Jane <q@x> (1) has the name of Jane <jane@x> (2)\"", "}\n"};
+
+static gix_mailmap_status lines_beside(char *out, size_t room, size_t *needed)
+{
+    return gix_mailmap_report_as(BESIDE, 1, &HISTORY, GIX_MAILMAP_FORMAT_GCC, out, room, needed);
+}
+
+static gix_mailmap_status objects_beside(char *out, size_t room, size_t *needed)
+{
+    return gix_mailmap_report_as(BESIDE, 1, &HISTORY, GIX_MAILMAP_FORMAT_JSON, out, room, needed);
+}
+
+/* a finding in words as the report as lines has it, with the other line; escapes aside */
+static bool is_notice(const gix_mailmap_notice *n, const char *texts, const char *words)
+{
+    char line[256];
+    snprintf(line, sizeof line, "%.*s:%zu: %.*s: %.*s [%.*s] %.*s:%zu", (int)n->file.len, texts + n->file.start, n->line,
+             (int)n->level.len, texts + n->level.start, (int)n->message.len, texts + n->message.start, (int)n->kind.len,
+             texts + n->kind.start, (int)n->other_file.len, texts + n->other_file.start, n->other_line);
+    return strcmp(line, words) == 0;
+}
+
+static void notices(void)
+{
+    static const char *const WORDS[] = {
+        "own:1: warning: no contact needs it [unneeded] :0",
+        "own:2: error: no email in brackets [no-email] :0",
+        "his\x1btory:2: warning: jane\xff <JANE@x> (1) has the email of Jane <jane@x> (2) [same-email] his\x1btory:1",
+        "his\x1btory:4: error: no contact [no-contact] :0",
+        "his\x1btory:6: note: Jane <q@x> (1) has the name of Jane <jane@x> (2) [same-name] his\x1btory:1"};
+    gix_mailmap_notice found[6], unfound = {97, 98, {1, 2}, {3, 4}, {5, 6}, {7, 8}, {9, 10}};
+    char texts[512], clean[512];
+    size_t needed = 99, len = 99;
+    memset(clean, '#', sizeof clean);
+    WANT(gix_mailmap_notices(BESIDE, 1, &HISTORY, NULL, 0, NULL, 0, &needed, &len) == GIX_MAILMAP_TOO_SHORT);
+    WANT(needed == 5 && len > 200 && len < sizeof texts);
+    size_t all = len;
+    for (size_t room = 4; room <= 6; room++) {
+        for (size_t texts_room = all - 1; texts_room <= all + 1; texts_room++) {
+            for (size_t i = 0; i < 6; i++)
+                found[i] = unfound;
+            memcpy(texts, clean, sizeof texts);
+            gix_mailmap_status status = gix_mailmap_notices(BESIDE, 1, &HISTORY, found, room, texts, texts_room, &needed, &len);
+            bool fits = room >= 5 && texts_room >= all;
+            WANT(status == (fits ? GIX_MAILMAP_OK : GIX_MAILMAP_TOO_SHORT) && needed == 5 && len == all);
+            for (size_t i = 0; i < 5; i++)
+                WANT(fits ? is_notice(&found[i], texts, WORDS[i]) : memcmp(&found[i], &unfound, sizeof unfound) == 0);
+            WANT(memcmp(&found[5], &unfound, sizeof unfound) == 0);
+            WANT(memcmp(fits ? texts + all : texts, clean, sizeof texts - (fits ? all : 0)) == 0);
+        }
+    }
+    /* without contacts, and without anything */
+    gix_mailmap_named none = {NULL, 0, NULL, 0}, huge = {"", SIZE_MAX, "", 2};
+    WANT(gix_mailmap_notices(BESIDE, 1, NULL, found, 6, texts, sizeof texts, &needed, &len) == GIX_MAILMAP_OK);
+    WANT(needed == 1 && is_notice(&found[0], texts, WORDS[1]));
+    WANT(gix_mailmap_notices(NULL, 0, &none, NULL, 0, NULL, 0, &needed, &len) == GIX_MAILMAP_OK && needed == 0 && len == 0);
+    needed = len = 99;
+    WANT(gix_mailmap_notices(&huge, 1, NULL, NULL, 0, NULL, 0, &needed, &len) == GIX_MAILMAP_OUT_OF_MEMORY);
+    WANT(needed == 0 && len == 0);
+}
+
+static void report_as(void)
+{
+    want_whole(lines_beside, TEXT(BESIDE_LINES));
+    size_t needed = 99;
+    char out[2048] = "";
+    WANT(objects_beside(out, sizeof out - 1, &needed) == GIX_MAILMAP_OK && needed < sizeof out);
+    out[needed] = 0;
+    const char *at = out;
+    for (size_t i = 0; i < sizeof MEMBERS / sizeof MEMBERS[0] && at != NULL; i++) {
+        at = strstr(at, MEMBERS[i]);
+        want(at != NULL, MEMBERS[i], __LINE__);
+    }
+    WANT(at != NULL && strcmp(at, "}\n") == 0);
+    WANT(objects_beside(out, needed - 1, &needed) == GIX_MAILMAP_TOO_SHORT && needed == strlen(out));
+    /* without contacts, and without anything */
+    gix_mailmap_named none = {NULL, 0, NULL, 0}, huge = {"", SIZE_MAX, "", 2};
+    WANT(gix_mailmap_report_as(BOTH, 2, NULL, GIX_MAILMAP_FORMAT_GCC, out, sizeof out, &needed) == GIX_MAILMAP_OK);
+    WANT(needed == sizeof REPORT - 1 && memcmp(out, REPORT, needed) == 0);
+    WANT(gix_mailmap_report_as(BESIDE, 1, NULL, GIX_MAILMAP_FORMAT_JSON, out, sizeof out, &needed) == GIX_MAILMAP_OK);
+    out[needed] = 0;
+    WANT(strstr(out, "no-email") != NULL && strstr(out, "unneeded") == NULL);
+    WANT(gix_mailmap_report_as(NULL, 0, &none, GIX_MAILMAP_FORMAT_JSON, NULL, 0, &needed) == GIX_MAILMAP_OK);
+    WANT(needed == 0);
+    WANT(gix_mailmap_report_as(&huge, 1, &none, GIX_MAILMAP_FORMAT_GCC, NULL, 0, &needed) == GIX_MAILMAP_OUT_OF_MEMORY);
+    WANT(needed == 0);
+}
+
+/* the place of an empty text may be anywhere */
+static bool is_place(gix_mailmap_place place, size_t start, size_t len)
+{
+    return place.len == len && (len == 0 || place.start == start);
+}
+
+/* the number of a line, its kind, and the places of its texts */
+typedef struct parsing {
+    size_t line;
+    int kind;
+    gix_mailmap_place text, new_name, new_email, old_name, old_email;
+} parsing;
+
+static bool is_parsed(gix_mailmap_parsed p, parsing w)
+{
+    return p.line == w.line && (int)p.kind == w.kind && is_place(p.text, w.text.start, w.text.len)
+           && is_place(p.new_name, w.new_name.start, w.new_name.len)
+           && is_place(p.new_email, w.new_email.start, w.new_email.len)
+           && is_place(p.old_name, w.old_name.start, w.old_name.len)
+           && is_place(p.old_email, w.old_email.start, w.old_email.len);
+}
+
+/* Each form of an entry and each fault. The white space in front is of two, three and one bytes; bytes that are no UTF-8
+ * stay, also one that ends white space. */
+static const char PARSED[] =
+    "# us\n"
+    "\xc2\xa0Jane <\xe3\x80\x80jane@x> \t<jd@y >\r\n"
+    "\n"
+    " Joe<joe@x>\n"
+    "<a@x> b <>c\n"
+    "N <n@x> O\xe2\x80\x80\x80 <o@x>\n"
+    "plain\n"
+    "N <n@x\n"
+    "N < > <n@x>\n"
+    " \t\n"
+    "<n@x> <o@x";
+static const parsing PARSINGS[] = {
+    {2, 0, {7, 25}, {7, 4}, {16, 6}, {0, 0}, {26, 4}},
+    {4, 0, {36, 10}, {36, 3}, {0, 0}, {0, 0}, {40, 5}},
+    {5, 0, {47, 11}, {0, 0}, {48, 3}, {53, 1}, {0, 0}},
+    {6, 0, {59, 19}, {59, 1}, {62, 3}, {67, 5}, {74, 3}},
+    {7, GIX_MAILMAP_NO_EMAIL, {79, 5}, {0, 0}, {0, 0}, {0, 0}, {0, 0}},
+    {8, GIX_MAILMAP_MISSING_CLOSING_BRACKET, {85, 6}, {0, 0}, {0, 0}, {0, 0}, {0, 0}},
+    {9, GIX_MAILMAP_EMPTY_EMAIL, {92, 11}, {0, 0}, {0, 0}, {0, 0}, {0, 0}},
+    {11, GIX_MAILMAP_NOTHING_TO_MAP, {107, 10}, {0, 0}, {0, 0}, {0, 0}, {0, 0}},
+};
+
+static void parse(void)
+{
+    enum { COUNT = sizeof PARSINGS / sizeof PARSINGS[0] };
+    long requests_before = requests;
+    gix_mailmap_cursor cursor = {0, 0};
+    gix_mailmap_parsed parsed;
+    for (size_t i = 0; i < COUNT; i++) {
+        WANT(gix_mailmap_parse(TEXT(PARSED), &cursor, &parsed) == GIX_MAILMAP_OK);
+        if (!is_parsed(parsed, PARSINGS[i])) {
+            fprintf(stderr, "line %zu: kind %d, text {%zu, %zu}, places {%zu, %zu} {%zu, %zu} {%zu, %zu} {%zu, %zu}\n",
+                    parsed.line, (int)parsed.kind, parsed.text.start, parsed.text.len, parsed.new_name.start,
+                    parsed.new_name.len, parsed.new_email.start, parsed.new_email.len, parsed.old_name.start,
+                    parsed.old_name.len, parsed.old_email.start, parsed.old_email.len);
+            failures++;
+        }
+    }
+    gix_mailmap_cursor end = cursor;
+    WANT(cursor.start == sizeof PARSED - 1 && cursor.lines == 11);
+    WANT(gix_mailmap_parse(TEXT(PARSED), &cursor, &parsed) == GIX_MAILMAP_NO_ENTRY);
+    WANT(cursor.start == end.start && cursor.lines == end.lines && is_parsed(parsed, PARSINGS[COUNT - 1]));
+    /* from a place within a text, after its end, and with the largest number of a line */
+    cursor = (gix_mailmap_cursor){35, SIZE_MAX};
+    WANT(gix_mailmap_parse(TEXT(PARSED), &cursor, &parsed) == GIX_MAILMAP_OK);
+    WANT(parsed.line == SIZE_MAX && is_place(parsed.text, 36, 10) && cursor.start == 47 && cursor.lines == SIZE_MAX);
+    const size_t ends[] = {sizeof PARSED - 1, sizeof PARSED, SIZE_MAX};
+    for (size_t i = 0; i < 3; i++) {
+        cursor = (gix_mailmap_cursor){ends[i], 0};
+        WANT(gix_mailmap_parse(TEXT(PARSED), &cursor, &parsed) == GIX_MAILMAP_NO_ENTRY && cursor.start == ends[i]);
+    }
+    cursor = (gix_mailmap_cursor){0, 0};
+    WANT(gix_mailmap_parse(NULL, 0, &cursor, &parsed) == GIX_MAILMAP_NO_ENTRY);
+    WANT(gix_mailmap_parse(TEXT("#\n\n# a <b>"), &cursor, &parsed) == GIX_MAILMAP_NO_ENTRY && cursor.start == 0);
+    WANT(requests == requests_before);
+}
+
 /* two mailmaps that together map a contact, and contacts with each answer */
 static const gix_mailmap_named GIVING[2] = {
     {TEXT("team"), TEXT("Jane Doe <jane@x>\n<jane@x> <jd@y>\n")}, {TEXT("own"), TEXT("Jane Doe <jd@y>\nI\x1b <i@x>")}};
@@ -689,6 +876,13 @@ static bool is_done(gix_mailmap_status status, const size_t *needed, int *out_of
     return status == GIX_MAILMAP_OK || (status == GIX_MAILMAP_OUT_OF_MEMORY && (needed == NULL || *needed == 0));
 }
 
+/* Failed requests that are retried for less memory, and so aren't reported: three for the vector of findings, which
+ * grows three times for the nine findings, one for each of the three lists of positions that gix_mailmap_unneeded makes,
+ * and one for each of two such lists in each report with contacts. How many gix_mailmap_suggest retries depends on how
+ * suggestions are made, so those aren't counted. */
+static int made_again;
+static long suggest_begins, suggest_ends;
+
 /* The calls without a mailmap, each once: how many ran out of memory. */
 static int texts_once(void)
 {
@@ -709,6 +903,18 @@ static int texts_once(void)
     char all[sizeof REPORT] = "#";
     WANT(is_done(gix_mailmap_report(BOTH, 2, all, sizeof all, &needed), &needed, &out_of_memory));
     WANT(needed ? needed == sizeof REPORT - 1 && memcmp(all, REPORT, needed) == 0 : all[0] == '#');
+    /* no contact, so that no suggestion is made */
+    const gix_mailmap_named plain = {TEXT("h"), TEXT("plain")};
+    gix_mailmap_notice notices[3] = {{97, 98, {1, 2}, {3, 4}, {5, 6}, {7, 8}, {9, 10}}};
+    size_t texts_len = 99;
+    all[0] = '#';
+    WANT(is_done(gix_mailmap_notices(BESIDE, 1, &plain, notices, 3, all, sizeof all, &needed, &texts_len), &needed,
+                 &out_of_memory));
+    WANT(needed ? needed == 3 && notices[2].line == 1 : notices[0].line == 97 && texts_len == 0 && all[0] == '#');
+    char objects[2048] = "#";
+    WANT(is_done(gix_mailmap_report_as(BESIDE, 1, &plain, GIX_MAILMAP_FORMAT_JSON, objects, sizeof objects, &needed),
+                 &needed, &out_of_memory));
+    WANT(needed ? objects[0] == '{' && objects[needed - 1] == '\n' : objects[0] == '#');
     all[0] = '#';
     WANT(is_done(gix_mailmap_explain(GIVING, 2, TEXT(EXPLAINED), all, sizeof all, &needed), &needed, &out_of_memory));
     WANT(needed ? needed == sizeof EXPLANATION - 1 && memcmp(all, EXPLANATION, needed) == 0 : all[0] == '#');
@@ -718,7 +924,9 @@ static int texts_once(void)
     const char *suggested = LACKING[1].suggested;
     all[0] = '*';
     lacking = &LACKING[1];
+    suggest_begins = requests;
     WANT(is_done(suggest_lacking(all, sizeof all, &needed), &needed, &out_of_memory));
+    suggest_ends = requests;
     WANT(needed ? needed == strlen(suggested) && memcmp(all, suggested, needed) == 0 : all[0] == '*');
     return out_of_memory;
 }
@@ -787,18 +995,14 @@ static int stream_once(void)
     return out_of_memory;
 }
 
-/* Failed requests that are retried for less memory, and so aren't reported: three for the vector of findings, which
- * grows three times for the nine findings, one for each of the three lists of positions that gix_mailmap_unneeded makes,
- * and 60 for the lists of characters and of words that gix_mailmap_suggest makes of names. */
-static int made_again;
-
 /* One run in which one request fails: false once there is no request of that number. */
 static bool fails(long number)
 {
     requests = 0;
     failed_request = number;
     int out_of_memory = texts_once() + calls_once() + stream_once();
-    made_again += number < requests && !out_of_memory;
+    bool is_of_suggest = suggest_begins <= number && number < suggest_ends;
+    made_again += number < requests && !out_of_memory && !is_of_suggest;
     WANT(out_of_memory <= (number < requests));
     WANT(blocks == 0);
     failed_request = -1;
@@ -807,9 +1011,9 @@ static bool fails(long number)
 
 int main(void)
 {
-    void (*const parts[])(void) = {words,   check_and_compact, prune,   verify,            report,
-                                   explain, unneeded,          suggest, changes,           entries,
-                                   streams, long_streams,      nulls,   copies_and_merges, long_answers};
+    void (*const parts[])(void) = {words,   check_and_compact, prune, verify,  report,       report_as, notices,
+                                   explain, unneeded,          parse, suggest, changes,      entries,
+                                   streams, long_streams,      nulls, copies_and_merges, long_answers};
     for (size_t i = 0; i < sizeof parts / sizeof parts[0]; i++) {
         parts[i]();
         WANT(blocks == 0);
@@ -817,7 +1021,7 @@ int main(void)
     long number = 0;
     while (fails(number))
         number++;
-    WANT(number > 0 && made_again == 66);
+    WANT(number > 0 && made_again == 10);
     printf("calls from C: %s, %ld requests for memory failed in turn\n", failures ? "failed" : "passed", number);
     return failures ? 1 : 0;
 }

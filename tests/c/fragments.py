@@ -14,7 +14,7 @@ BEFORE = """#include <gix_mailmap.h>
 static gix_mailmap *map;
 static gix_mailmap_stream *stream;
 static gix_mailmap_status status;
-static gix_mailmap_named mailmaps[2];
+static gix_mailmap_named mailmaps[2], history;
 static gix_mailmap_field new_name, new_email;
 static const char *text, *part, *team, *own, *contacts;
 static size_t text_len, part_len, team_len, own_len, contacts_len, needed, taken, count;

@@ -110,7 +110,8 @@ tests() {
     "$cc" -std=c11 "${strict[@]}" "$@" "$here/calls.c" "$library/libgix_mailmap.a" "${wrapped[@]}" -o "$work/calls"
     "$work/calls"
     "$cc" -std=c11 "${strict[@]}" "$@" "$here/stored.c" "$library/libgix_mailmap.a" -o "$work/stored"
-    "$here/../original/compare.py" "$work/stored" "$work/stored" check compact entries resolve
+    "$here/../original/compare.py" "$work/stored" "$work/stored"
+    "$here/reported.py" "$work/stored"
 }
 
 echo 'int main(void) { return 0; }' > "$work/empty.c"

@@ -1,10 +1,13 @@
-/* Prints what mailmap_check and mailmap_dump print, using only gix_mailmap.h. tests/original/compare.py runs it on the
- * stored answers of the original.
+/* Prints what mailmap_check, mailmap_dump and mailmap_verify print, using only gix_mailmap.h. tests/original/compare.py
+ * runs it on the stored answers of the original, and reported.py on those of mailmap_verify.
  *
  *     stored FILE..            answers each line of standard input
  *     stored --compact FILE..  the mailmap of all FILEs
  *     stored entries FILE..    its entries, in hex
  *     stored resolve FILE..    the answers to the lines NAME EMAIL, in hex, on standard input
+ *     stored parse FILE..      the entry or the fault of each line, in hex
+ *     stored gcc|json CONTACTS FILE..    the findings in the FILEs and in the contacts
+ *     stored notices CONTACTS FILE..     the same: the numbers of the lines, and the other texts in hex
  */
 #include "gix_mailmap.h"
 #include <stdio.h>
@@ -51,15 +54,21 @@ static text read_all(FILE *file)
     return all;
 }
 
+static text read_file(const char *path)
+{
+    FILE *file = fopen(path, "rb");
+    must(file != NULL, "cannot read a file");
+    text read = read_all(file);
+    fclose(file);
+    return read;
+}
+
 static gix_mailmap *merged(char **paths)
 {
     gix_mailmap *map;
     must(gix_mailmap_open(&map, NULL, 0) == GIX_MAILMAP_OK, "open");
     for (; *paths; paths++) {
-        FILE *file = fopen(*paths, "rb");
-        must(file != NULL, "cannot read a file");
-        text read = read_all(file);
-        fclose(file);
+        text read = read_file(*paths);
         must(gix_mailmap_add(map, read.bytes, read.len) == GIX_MAILMAP_OK, "add");
         free(read.bytes);
     }
@@ -204,8 +213,110 @@ static void put_all_resolved(const gix_mailmap *map, text pairs)
     free(pairs.bytes);
 }
 
+static void put_place(const char *mailmap, gix_mailmap_place place, bool is_given, char after)
+{
+    put_hex(mailmap + place.start, (gix_mailmap_field){place.len, is_given}, after);
+}
+
+static void put_parsed(text mailmap)
+{
+    static const char *const FAULTS[] = {
+        NULL, "Line %zu does not contain an email ", "%zu: Missing closing bracket '>' in email ",
+        "%zu: Email must not be empty ", "%zu: Emails without a name or email to map to are invalid "};
+    gix_mailmap_cursor cursor = {0, 0};
+    gix_mailmap_parsed p;
+    while (gix_mailmap_parse(mailmap.bytes, mailmap.len, &cursor, &p) == GIX_MAILMAP_OK) {
+        must((int)p.kind >= 0 && p.kind <= GIX_MAILMAP_NOTHING_TO_MAP, "an unknown fault");
+        if (p.kind != 0) {
+            printf("F ");
+            printf(FAULTS[p.kind], p.line);
+            put_place(mailmap.bytes, p.text, true, '\n');
+            continue;
+        }
+        printf("E ");
+        put_place(mailmap.bytes, p.new_name, p.new_name.len > 0, ' ');
+        put_place(mailmap.bytes, p.new_email, p.new_email.len > 0, ' ');
+        put_place(mailmap.bytes, p.old_name, p.old_name.len > 0, ' ');
+        put_place(mailmap.bytes, p.old_email, true, '\n');
+    }
+    must(cursor.start <= mailmap.len, "a cursor past the end");
+}
+
+static gix_mailmap_named named(const char *path)
+{
+    text read = read_file(path);
+    return (gix_mailmap_named){path, strlen(path), read.bytes, read.len};
+}
+
+static void put_report(gix_mailmap_format format, const gix_mailmap_named *contacts, size_t count,
+                       const gix_mailmap_named *mailmaps)
+{
+    size_t needed;
+    must(gix_mailmap_report_as(mailmaps, count, contacts, format, NULL, 0, &needed) != GIX_MAILMAP_OUT_OF_MEMORY, "report");
+    text out = buffer(needed);
+    must(gix_mailmap_report_as(mailmaps, count, contacts, format, out.bytes, out.len, &needed) == GIX_MAILMAP_OK, "report");
+    fwrite(out.bytes, 1, out.len, stdout);
+    free(out.bytes);
+}
+
+static void put_notices(const gix_mailmap_named *contacts, size_t count, const gix_mailmap_named *mailmaps)
+{
+    size_t needed, len;
+    must(gix_mailmap_notices(mailmaps, count, contacts, NULL, 0, NULL, 0, &needed, &len) != GIX_MAILMAP_OUT_OF_MEMORY,
+         "notices");
+    gix_mailmap_notice *notices = malloc((needed ? needed : 1) * sizeof *notices);
+    text texts = buffer(len);
+    must(gix_mailmap_notices(mailmaps, count, contacts, notices, needed, texts.bytes, len, &needed, &len)
+         == GIX_MAILMAP_OK, "notices");
+    for (size_t i = 0; i < needed; i++) {
+        const gix_mailmap_notice *n = &notices[i];
+        printf("%zu %zu ", n->line, n->other_line);
+        put_place(texts.bytes, n->file, true, ' ');
+        put_place(texts.bytes, n->level, true, ' ');
+        put_place(texts.bytes, n->kind, true, ' ');
+        put_place(texts.bytes, n->message, true, ' ');
+        put_place(texts.bytes, n->other_file, true, '\n');
+    }
+    free(texts.bytes);
+    free(notices);
+}
+
+static void put_findings(const char *form, const char *contacts_path, size_t count, char **paths)
+{
+    gix_mailmap_named *mailmaps = malloc((count + 1) * sizeof *mailmaps), contacts = named(contacts_path);
+    must(mailmaps != NULL, "out of memory");
+    for (size_t i = 0; i < count; i++)
+        mailmaps[i] = named(paths[i]);
+    if (strcmp(form, "notices") == 0)
+        put_notices(&contacts, count, mailmaps);
+    else
+        put_report(strcmp(form, "json") == 0 ? GIX_MAILMAP_FORMAT_JSON : GIX_MAILMAP_FORMAT_GCC, &contacts, count, mailmaps);
+    for (size_t i = 0; i < count; i++)
+        free((char *)mailmaps[i].text);
+    free((char *)contacts.text);
+    free(mailmaps);
+}
+
+/* Whether the mode is one that makes no mailmap of the files; then it is done. */
+static bool reads_texts(int count, char **words)
+{
+    const char *mode = count > 2 ? words[1] : "";
+    bool parses = strcmp(mode, "parse") == 0;
+    for (int i = 2; parses && i < count; i++) {
+        text mailmap = read_file(words[i]);
+        put_parsed(mailmap);
+        free(mailmap.bytes);
+    }
+    bool finds = strcmp(mode, "gcc") == 0 || strcmp(mode, "json") == 0 || strcmp(mode, "notices") == 0;
+    if (finds)
+        put_findings(mode, words[2], (size_t)count - 3, words + 3);
+    return parses || finds;
+}
+
 int main(int count, char **words)
 {
+    if (reads_texts(count, words))
+        return 0;
     bool is_mode = count > 1 && (strcmp(words[1], "--compact") == 0 || strcmp(words[1], "entries") == 0
                                  || strcmp(words[1], "resolve") == 0);
     const char *mode = is_mode ? words[1] : "check";

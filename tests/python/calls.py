@@ -9,7 +9,8 @@ from pathlib import Path
 from unittest.mock import Mock
 
 import gix_mailmap
-from gix_mailmap import Answer, Closed, Entry, Finding, Kind, Mailmap, NotALine, NotAnEntry, Position, Unwritable
+from gix_mailmap import Answer, Closed, Entry, Finding, Kind, Mailmap, NotALine, NotAnEntry, Notice, Place, Position
+from gix_mailmap import Unwritable
 
 MAP = b"Jane Doe <jane@x> <jd@y>\nJoe <joe@x>\n"
 JANE = Entry(b"Jane Doe", b"jane@x", None, b"jd@y")
@@ -105,6 +106,78 @@ class Texts(unittest.TestCase):
         many = gix_mailmap.report([(b"many", b"plain\n" * COUNT)])
         self.assertEqual(many.count(b": error: no email in brackets [no-email]\n"), COUNT)
         self.assertTrue(many.endswith(b"\nmany:200000: error: no email in brackets [no-email]\n"))
+
+    def test_findings(self):
+        """Findings about mailmaps and contacts, in a `str` and in bytes that are no UTF-8."""
+        own, history = (b"own", b"N <e@x>\nplain\nN <e@x>\n"), (b"h", b"Jane <j@x>\nJ\xff <J@x>\n\nplain\nJane <j@x>")
+        wanted = [
+            Notice(b"own", 1, "warning", "no-effect", b"no effect: own:3 says the same", Place(b"own", 3)),
+            Notice(b"own", 2, "error", "no-email", b"no email in brackets", None),
+            Notice(b"own", 3, "warning", "unneeded", b"no contact needs it", None),
+            Notice(b"h", 2, "warning", "same-email", b"J\xff <J@x> (1) has the email of Jane <j@x> (2)", Place(b"h", 1)),
+            Notice(b"h", 4, "error", "no-contact", b"no contact", None),
+        ]
+        self.assertEqual(gix_mailmap.findings([own], history), wanted)
+        self.assertEqual(gix_mailmap.findings(iter([own])), wanted[:2])
+        lines = [b"%b:%d: %b: %b [%b]\n" % (n.file, n.line, n.level.encode(), n.message, n.kind.encode()) for n in wanted]
+        self.assertEqual(gix_mailmap.report([own], history), b"".join(lines))
+        self.assertEqual(gix_mailmap.report([own], format="gcc"), b"".join(lines[:2]))
+        of_str = gix_mailmap.findings([("ä", "plain")], ("b", "J\udcff <a>\nj <A>"))
+        self.assertEqual(of_str, [
+            Notice("ä", 1, "error", "no-email", "no email in brackets", None),
+            Notice("b", 2, "warning", "same-email", "j <A> (1) has the email of J\udcff <a> (1)", Place("b", 1)),
+        ])
+        self.assertEqual(gix_mailmap.findings([]), [])
+        self.assertEqual(gix_mailmap.findings([], ("", "")), [])
+        # a line separator in a message ends no line of the report
+        many = gix_mailmap.findings([("many", "N <a@x> b\u2028c\n" * 1000)])
+        self.assertEqual(sum("\u2028" in found.message for found in many), 1000)
+        for wrong in (
+            lambda: gix_mailmap.report([own], format="xml"), lambda: gix_mailmap.report([own], format=None),
+        ):
+            with self.assertRaises(ValueError):
+                wrong()
+        for wrong in (
+            lambda: gix_mailmap.report([own], b"history"), lambda: gix_mailmap.report([own], ("h", "")),
+            lambda: gix_mailmap.findings([own], (b"h",)), lambda: gix_mailmap.report([own], "gcc"),
+        ):
+            with self.assertRaises(TypeError):
+                wrong()
+
+    def test_parse(self):
+        """Each form of an entry, each fault, and the lines that are passed over: the texts at their places."""
+        text = (
+            "# ü\n\u00a0Jäne Doe <\u3000jane@x> \t<jd@y >\r\n\n Joe<joe@x>\n<a@x> b <>c\nN <n@x> Ö\udcff <o@x>\n"
+            "plain\nN <n@x\nN < > <n@x>\n \t\n<n@x> <o@x"
+        )
+        wanted = [
+            (2, None, "Jäne Doe <\u3000jane@x> \t<jd@y >", "Jäne Doe", "jane@x", None, "jd@y"),
+            (4, None, "Joe<joe@x>", "Joe", None, None, "joe@x"),
+            (5, None, "<a@x> b <>c", None, "a@x", "b", ""),
+            (6, None, "N <n@x> Ö\udcff <o@x>", "N", "n@x", "Ö\udcff", "o@x"),
+            (7, Kind.NO_EMAIL, "plain", None, None, None, None),
+            (8, Kind.MISSING_CLOSING_BRACKET, "N <n@x", None, None, None, None),
+            (9, Kind.EMPTY_EMAIL, "N < > <n@x>", None, None, None, None),
+            (11, Kind.NOTHING_TO_MAP, "<n@x> <o@x", None, None, None, None),
+        ]
+        lines = gix_mailmap.parse(text)
+        self.assertEqual([(*line[:2], *(text[at] if at is not None else None for at in line[2:])) for line in lines], wanted)
+        at = text.index("Joe<joe@x>")
+        self.assertEqual((lines[1].text, lines[1].new_name), (slice(at, at + 10), slice(at, at + 3)))
+        encoded = text.encode(errors="surrogateescape")
+        for kind in (bytes, bytearray, memoryview):
+            lines = gix_mailmap.parse(kind(encoded))
+            texts = [[None if at is None else bytes(kind(encoded)[at]) for at in line[2:]] for line in lines]
+            self.assertEqual(texts, [[t and t.encode(errors="surrogateescape") for t in row[2:-1]]
+                                     + [None if row[-1] is None else row[-1].encode()] for row in wanted])
+        # surrogates that together are a character stay apart
+        self.assertEqual(gix_mailmap.parse("\udcc3\udca4 <a@x>")[0].old_email, slice(4, 7))
+        self.assertEqual([gix_mailmap.parse(empty) for empty in ("", b"", "# a <b>\n\n", "ä"[:0])], [[]] * 4)
+        self.assertEqual(len(gix_mailmap.parse(MANY)), COUNT)
+        self.assertEqual([line.number for line in gix_mailmap.parse("ä\n" * 1000)], list(range(1, 1001)))
+        for wrong in (None, 1, io.StringIO("N <a@x>"), io.BytesIO(b"N <a@x>")):
+            with self.assertRaises(TypeError):
+                gix_mailmap.parse(wrong)
 
     def test_explain(self):
         both = [(b"team", b"Jane Doe <jane@x>\n<jane@x> <jd@y>\n"), (b"own", b"Jane Doe <jd@y>\nI\x1b <i@x>")]

@@ -101,6 +101,8 @@ class Kinds(unittest.TestCase):
                 lambda: gix_mailmap.check("", b""),
                 lambda: gix_mailmap.report([("", b"")]),
                 lambda: gix_mailmap.report([("", ""), (b"", b"")]),
+                lambda: gix_mailmap.report([("", "")], (b"", b"")),
+                lambda: gix_mailmap.findings([(b"", b"")], ("", "")),
                 lambda: gix_mailmap.unneeded([("", b"")], ""),
                 lambda: gix_mailmap.unneeded([("", "")], b""),
                 lambda: list(of_str.map_contacts(["", b""])),

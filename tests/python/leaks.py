@@ -101,6 +101,11 @@ def calls():
         "verify": lambda: gix_mailmap.verify("plain\n"),
         "report": lambda: gix_mailmap.report(pairs),
         "report, of no pairs": raising(gix_mailmap.report, ".."),
+        "report, as JSON": lambda: gix_mailmap.report(pairs, format="json"),
+        "findings": lambda: gix_mailmap.findings(pairs),
+        "parse": lambda: gix_mailmap.parse(MAP),
+        "parse, of bytes": lambda: gix_mailmap.parse(b"plain\nN <a@x>"),
+        "parse, of no text": raising(gix_mailmap.parse, None),
         "explain": lambda: gix_mailmap.explain(pairs, "jd <jd@y>"),
         "unneeded": lambda: gix_mailmap.unneeded(pairs, ""),
     }
@@ -110,6 +115,7 @@ def calls():
 FEWER = {
     "map_contacts": lambda: list(Mailmap(MAP).map_contacts(["a", "jd <jd@y>\n"])),
     "suggest": lambda: gix_mailmap.suggest([("own", MAP)], "jane <jane@x>\nJane <jane@x>"),
+    "findings, of contacts": lambda: gix_mailmap.findings([("own", MAP)], ("h", "jane <jane@x>\nJane <jane@x>")),
 }
 KEPT = [
     None, True, False, gix_mailmap.Answer, gix_mailmap.Entry, gix_mailmap.Mailmap, _native.Mailmap, _native.Stream,

@@ -54,6 +54,7 @@ for each in $(pythons); do
     "$venv/bin/python" -W error "$here/package.py" wheels/*/*.whl
     first="${first:-$venv}"
 done
+"$first/bin/python" "$here/reported.py" "$here/../verify/explained.jsonl"
 
 echo 'Python: the source tree'
 make --no-print-directory -s -C "$top" extension

@@ -1,15 +1,21 @@
 """The original's stored answers, compared with the package gix_mailmap.
 
     stored.py CASES
-
-Leaves out cases that parse lines one by one, because no call reports single lines.
 """
 import json
 import sys
 from collections import Counter
 
 import gix_mailmap
-from gix_mailmap import Mailmap
+from gix_mailmap import Kind, Mailmap
+
+# the words of the original for each fault
+FAULTS = {
+    Kind.NO_EMAIL: "Line {} does not contain an email",
+    Kind.MISSING_CLOSING_BRACKET: "{}: Missing closing bracket '>' in email",
+    Kind.EMPTY_EMAIL: "{}: Email must not be empty",
+    Kind.NOTHING_TO_MAP: "{}: Emails without a name or email to map to are invalid",
+}
 
 
 def shown(text):
@@ -26,6 +32,21 @@ def entries(mailmap):
     listed = mailmap.entries()
     assert [mailmap[place] for place in range(len(mailmap))] == listed
     return "".join(f"E {' '.join(shown(text) for text in entry)}\n" for entry in listed).encode()
+
+
+def parsed(text):
+    """The lines of a mailmap in bytes, which have to be those of the same mailmap in a `str`."""
+    lines = gix_mailmap.parse(text)
+    of_str = text.decode(errors="surrogateescape")
+    for line, same in zip(lines, gix_mailmap.parse(of_str), strict=True):
+        assert line[:2] == same[:2]
+        for place, of_same in zip(line[2:], same[2:]):
+            assert place is of_same is None or text[place] == of_str[of_same].encode(errors="surrogateescape")
+    return "".join(
+        f"F {FAULTS[line.kind].format(line.number)} {shown(text[line.text])}\n" if line.kind is not None
+        else f"E {' '.join(shown(None if place is None else text[place]) for place in line[3:])}\n"
+        for line in lines
+    ).encode()
 
 
 def resolved(mailmap, pairs):
@@ -63,10 +84,9 @@ def main():
     agreed, failed = Counter(), 0
     for number, case in enumerate(map(json.loads, open(sys.argv[1], encoding="ascii")), 1):
         mode = case["mode"]
-        if mode == "parse":
-            continue
-        with Mailmap(*map(bytes.fromhex, case["files"])) as mailmap:
-            given = answer(mode, mailmap, bytes.fromhex(case["input"]))
+        files = [bytes.fromhex(file) for file in case["files"]]
+        with Mailmap(*files) as mailmap:
+            given = b"".join(map(parsed, files)) if mode == "parse" else answer(mode, mailmap, bytes.fromhex(case["input"]))
         if given.hex() == case["answer"] and case["status"] == 0:
             agreed[mode] += 1
         else:

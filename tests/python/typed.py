@@ -2,7 +2,7 @@
 from typing import Iterator, Sequence, assert_type
 
 import gix_mailmap
-from gix_mailmap import Answer, Entry, Finding, Kind, Mailmap, Position
+from gix_mailmap import Answer, Entry, Finding, Kind, Line, Mailmap, Notice, Position
 
 
 class Own(Mailmap[str]):
@@ -55,6 +55,9 @@ with Mailmap("") as of_str, Mailmap(b"", buffer, memoryview(buffer)) as of_bytes
     Mailmap("", b"")  # type: ignore[call-overload]
     gix_mailmap.compact(1)  # type: ignore[call-overload]
     gix_mailmap.report([("", b"")])  # type: ignore[list-item]
+    gix_mailmap.report([("", "")], (b"", b""))  # type: ignore[arg-type]
+    gix_mailmap.findings([("", "")], (b"", b""))  # type: ignore[arg-type]
+    gix_mailmap.parse(1)  # type: ignore[arg-type]
     gix_mailmap.explain([("", "")], b"")  # type: ignore[list-item]
     gix_mailmap.suggest([("", "")], b"")  # type: ignore[list-item]
     gix_mailmap.unneeded([("", "")], b"")  # type: ignore[type-var]
@@ -64,6 +67,11 @@ assert_type(gix_mailmap.compact(buffer), bytes)
 assert_type(gix_mailmap.prune(b""), bytes)
 assert_type(gix_mailmap.report([("", "")]), str)
 assert_type(gix_mailmap.report({b"": b""}.items()), bytes)
+assert_type(gix_mailmap.report([("", "")], ("", ""), format="json"), str)
+assert_type(gix_mailmap.findings([("", "")]), list[Notice[str]])
+assert_type(gix_mailmap.findings({b"": b""}.items(), (b"", b""))[0].message, bytes)
+assert_type(gix_mailmap.parse(""), list[Line])
+assert_type(gix_mailmap.parse(buffer)[0].old_email, slice | None)
 assert_type(gix_mailmap.explain([("", "")], ""), str)
 assert_type(gix_mailmap.explain({b"": buffer}.items(), b""), bytes)
 assert_type(gix_mailmap.suggest([("", "")], ""), str)

@@ -28,7 +28,7 @@ IsOutput {X} P before after needed status = ((text : List X) × P text × IsPut 
     ⊎ IsOutOfMemory before after needed status
 
 -- status 0: each of two texts is written into its buffer; 1: one of the buffers is too short, and both are unchanged
-abbrev pub ArePut : List ℕ → List ℕ → List ℕ → List ℕ → List ℕ → List ℕ → ℕ → Type 0
+abbrev pub ArePut : {X Y : Type 0} → List X → List X → List X → List Y → List Y → List Y → ℕ → Type 0
 ArePut s s_before s_after t t_before t_after status =
     ((status ≡ 0) × IsWritten s s_before s_after × IsWritten t t_before t_after)
     ⊎ ((status ≡ 1) × ((length s_before < length s) ⊎ (length t_before < length t))

@@ -4,5 +4,7 @@ pub mod Borrowing
 pub mod Handles
 pub mod Listed
 pub mod Findings
+pub mod Places
 pub mod Streamed
 pub mod Several
+pub mod Notices

@@ -1,11 +1,15 @@
 -- Calls on several mailmaps, whose names and texts are in two buffers.
-use Rattle.std.specs.Prelude.{◌≡◌, ℕ, List, [], ◌∷◌, drop, map, take}
+use Rattle.std.specs.Prelude.{◌≡◌, ◌==◌, ℕ, if◌then◌else◌, List, [], ◌∷◌, Some, drop, map, take}
 use Rattle.mailmap_entries.specs.Folding.{Text}
 use Rattle.mailmap_findings.specs.Findings.{AreFindings, Finding}
 use Rattle.mailmap_findings.specs.Needs.{AreUnneeded}
+use Rattle.mailmap_findings.specs.Positions.{whole_lines}
+use Rattle.mailmap_findings.specs.Remarks.{AreRemarks, Remark}
 use Rattle.mailmap_redundancy.specs.declared.located.Position as library
-use Rattle.mailmap_report.specs.Report.{report}
-use Rattle.mailmap_report.specs.Settings.{no_choices}
+use Rattle.mailmap_report.specs.Report.{pieces_beside, report, text_of}
+use Rattle.mailmap_report.specs.Settings.{Choices, no_choices}
+use Rattle.mailmap_report.specs.declared.settings.Format.TheVariants.{Json}
+use Rattle.mailmap_suggestions.specs.ContactFindings.{AreContactFindings, ContactFinding}
 use Rattle.gix_mailmap_c.specs.declared.several.Lengths.{Lengths}
 use Rattle.gix_mailmap_c.specs.declared.several.Position.{Position}
 
@@ -20,11 +24,24 @@ names_in lengths names = cut_by (map (λ l. l.name) lengths) names
 abbrev pub texts_in : List Lengths → Text → List Text
 texts_in lengths texts = cut_by (map (λ l. l.text) lengths) texts
 
--- the report has a line for each finding in the mailmaps, in order, and no other line
-pub record IsReportOf (names mailmaps : List Text) (text : Text) : Type 0 where
+-- all findings are reported: as objects of JSON in the format 1, otherwise as lines
+abbrev pub choices_in : ℕ → Choices
+choices_in format = if format == 1 then record no_choices { format = Some Json } else no_choices
+
+-- the report has a line or an object for each finding in the mailmaps, in order, and nothing else
+pub record IsReportOf (choices : Choices) (names mailmaps : List Text) (text : Text) : Type 0 where
   pub found : List Finding
   pub whole : AreFindings mailmaps found
-  pub lines : text ≡ report no_choices names found
+  pub lines : text ≡ report choices names found
+
+-- it has one for each finding in the mailmaps and for each line that no contact needs, in order, and after these one for
+-- each finding about the contacts
+pub record IsReportBesideOf (choices : Choices) (names mailmaps : List Text) (file contacts : Text) (text : Text) : Type 0 where
+  pub remarks : List Remark
+  pub are_remarks : AreRemarks mailmaps contacts remarks
+  pub found : List ContactFinding
+  pub about : AreContactFindings mailmaps (whole_lines contacts) found
+  pub lines : text ≡ text_of (pieces_beside choices names file remarks found)
 
 abbrev pub c_position : library.Position → Position
 c_position p = record { buffer = p.buffer; line = p.line }

@@ -10,6 +10,8 @@ pub mod handle;
 mod held;
 pub mod listing;
 pub mod lookup;
+pub mod notices;
+pub mod parsing;
 pub mod several;
 pub mod status;
 pub mod stream;

@@ -5,24 +5,32 @@ ghost use Rattle.mailmap_entries.specs.Folding.{Text};
 ghost use Rattle.mailmap_findings.specs.Positions.{whole_lines};
 ghost use Rattle.mailmap_suggestions.specs.Printed.{IsSuggested};
 ghost use Rattle.mailmap_report.specs.Explained.{ExplainsAll, each_line, explained_line};
+ghost use Rattle.mailmap_report.specs.Settings.{choices_of};
 ghost use Rattle.gix_mailmap_c.specs.Buffers.{IsOutput};
-ghost use Rattle.gix_mailmap_c.specs.Several.{c_position, names_in, texts_in};
-ghost use Rattle.gix_mailmap_c.specs.Several.{AreUnneededOf, IsReportOf};
+ghost use Rattle.gix_mailmap_c.specs.Several.{c_position, choices_in, names_in, texts_in};
+ghost use Rattle.gix_mailmap_c.specs.Several.{AreUnneededOf, IsReportBesideOf, IsReportOf};
 
 use crate::buffers::hand;
 use bstr::ByteSlice;
+use mailmap_contacts::answers::add_to_needs;
 use mailmap_contacts::counter::{ContactCounter, Contacts};
+use mailmap_findings::needs::Needs;
+use mailmap_findings::remarks::Remarks;
 use mailmap_findings::verify::{Mailmaps, Verification};
 use mailmap_findings::{needs, verify};
 use mailmap_report::explanation::Explainer;
-use mailmap_report::pieces::{self, FindingPieces};
-use mailmap_report::settings::Settings;
+use mailmap_report::pieces::{self, FindingPieces, PiecesBeside};
+use mailmap_report::settings::{Format, Settings};
 use mailmap_report::suggested::SuggestionPieces;
+use mailmap_suggestions::findings::contact_findings;
 use mailmap_suggestions::suggestions::suggest;
 use mailmap_suggestions::text::feed_after;
 use std::alloc::{AllocError, Global};
 
-type Made<T> = Result<Vec<T>, AllocError>;
+pub(crate) type Made<T> = Result<Vec<T>, AllocError>;
+
+// The number of the format in which findings are objects of JSON.
+const JSON: u32 = 1;
 
 /// The lengths of a mailmap's name and text.
 #[repr(C)]
@@ -40,7 +48,8 @@ pub struct Position {
     pub line: usize,
 }
 
-/// Writes a line for each finding in several mailmaps, as [`FindingPieces`] has them.
+/// Writes each finding in several mailmaps, as [`FindingPieces`] has them: as objects of JSON if `format` is 1, and
+/// otherwise as lines.
 ///
 /// `names` has the mailmaps' names, one after another, and `texts` their texts. If either has fewer bytes than
 /// `lengths` adds up to, the last ones are short or empty.
@@ -49,33 +58,123 @@ pub struct Position {
 #[unsafe(no_mangle)]
 pub extern "C" fn gix_mailmap_text_report(
     alloc: Global,
+    format: u32,
     lengths: &[Lengths],
     names: &[u8],
     texts: &[u8],
     out: &mut [u8],
     needed: &mut usize,
 ) -> u32
-    ensures { IsOutput (IsReportOf (names_in lengths.now names.now) (texts_in lengths.now texts.now))
-        out.old out.new needed.new result }
+    ensures { IsOutput (IsReportOf (choices_in format) (names_in lengths.now names.now)
+        (texts_in lengths.now texts.now)) out.old out.new needed.new result }
 {
-    hand(report(alloc, lengths, names, texts), out, needed)
+    hand(report(alloc, format, lengths, names, texts), out, needed)
 }
 
-fn report(alloc: Global, lengths: &[Lengths], names: &[u8], texts: &[u8]) -> Made<u8>
-    ensures { IfOk result (λ text. IsReportOf (names_in lengths.now names.now) (texts_in lengths.now texts.now)
-        text.items) }
+fn report(alloc: Global, format: u32, lengths: &[Lengths], names: &[u8], texts: &[u8]) -> Made<u8>
+    ensures { IfOk result (λ text. IsReportOf (choices_in format) (names_in lengths.now names.now)
+        (texts_in lengths.now texts.now) text.items) }
 {
     let names = names_of(alloc, lengths, names)?;
     let buffers = texts_of(alloc, lengths, texts)?;
     let mailmaps = Mailmaps::read(alloc, buffers.as_slice())?;
     let verification = Verification::new(alloc, &mailmaps)?;
-    let settings = Settings::new(alloc);
+    let settings = settings_in(alloc, format);
     let pieces = FindingPieces {
         settings: &settings,
         names: names.as_slice(),
         findings: verification.findings(),
     };
     pieces::text_of(alloc, pieces)
+}
+
+/// Writes each finding in several mailmaps and in contacts, as [`PiecesBeside`] has them. `file` is the name of the
+/// contacts.
+///
+/// Takes a format, the names and texts of mailmaps, and returns what [`gix_mailmap_text_report`] does.
+#[unsafe(no_mangle)]
+pub extern "C" fn gix_mailmap_text_report_beside(
+    alloc: Global,
+    format: u32,
+    lengths: &[Lengths],
+    names: &[u8],
+    texts: &[u8],
+    file: &[u8],
+    contacts: &[u8],
+    out: &mut [u8],
+    needed: &mut usize,
+) -> u32
+    ensures { IsOutput (IsReportBesideOf (choices_in format) (names_in lengths.now names.now)
+        (texts_in lengths.now texts.now) file.now contacts.now) out.old out.new needed.new result }
+{
+    let made = report_beside(alloc, format, lengths, names, texts, file, contacts);
+    hand(made, out, needed)
+}
+
+fn report_beside(
+    alloc: Global,
+    format: u32,
+    lengths: &[Lengths],
+    names: &[u8],
+    texts: &[u8],
+    file: &[u8],
+    contacts: &[u8],
+) -> Made<u8>
+    ensures { IfOk result (λ text. IsReportBesideOf (choices_in format) (names_in lengths.now names.now)
+        (texts_in lengths.now texts.now) file.now contacts.now text.items) }
+{
+    let names = names_of(alloc, lengths, names)?;
+    let buffers = texts_of(alloc, lengths, texts)?;
+    let counted = counted_in(alloc, contacts)?;
+    let settings = settings_in(alloc, format);
+    report_counted(
+        alloc,
+        &settings,
+        names.as_slice(),
+        buffers.as_slice(),
+        file,
+        &counted,
+    )
+}
+
+fn report_counted(
+    alloc: Global,
+    settings: &Settings,
+    names: &[Vec<u8>],
+    buffers: &[&[u8]],
+    file: &[u8],
+    counted: &Contacts,
+) -> Made<u8>
+    ensures { (contacts : Text) → AreContactsOf (whole_lines contacts) counted.now
+        → IfOk result (λ text. IsReportBesideOf (choices_of settings.now) (map (λ name. name.items) names.now)
+        (map (λ b. b.now) buffers.now) file.now contacts text.items) }
+{
+    let findings = contact_findings(alloc, buffers, counted)?;
+    let mailmaps = Mailmaps::read(alloc, buffers)?;
+    let mut needs = Needs::new(alloc, &mailmaps)?;
+    add_to_needs(counted, &mut needs);
+    let unneeded = needs.unneeded(alloc)?;
+    let verification = Verification::new(alloc, &mailmaps)?;
+    let remarks = Remarks::new(verification.findings(), unneeded.as_slice());
+    let found = findings.as_slice().iter();
+    let pieces = PiecesBeside {
+        settings,
+        names,
+        file,
+        remarks,
+        findings: found,
+    };
+    pieces::text_of(alloc, pieces)
+}
+
+fn settings_in(alloc: Global, format: u32) -> Settings
+    ensures { choices_of result ≡ choices_in format }
+{
+    let mut settings = Settings::new(alloc);
+    if format == JSON {
+        settings.format = Some(Format::Json);
+    }
+    settings
 }
 
 /// Explains each line of `contacts` using several mailmaps, as [`Explainer::explained_line`] does.
@@ -203,7 +302,7 @@ fn suggested_by(alloc: Global, buffers: &[&[u8]], counted: &Contacts) -> Made<u8
     pieces::text_of(alloc, pieces)
 }
 
-fn counted_in(alloc: Global, contacts: &[u8]) -> Result<Contacts, AllocError>
+pub(crate) fn counted_in(alloc: Global, contacts: &[u8]) -> Result<Contacts, AllocError>
     ensures { IfOk result (AreContactsOf (whole_lines contacts.now)) }
 {
     let mut counter = ContactCounter::new(alloc)?;
@@ -211,7 +310,7 @@ fn counted_in(alloc: Global, contacts: &[u8]) -> Result<Contacts, AllocError>
     counter.into_contacts()
 }
 
-fn names_of(alloc: Global, lengths: &[Lengths], names: &[u8]) -> Made<Vec<u8>>
+pub(crate) fn names_of(alloc: Global, lengths: &[Lengths], names: &[u8]) -> Made<Vec<u8>>
     ensures { IfOk result (λ each. map (λ name. name.items) each.items ≡ names_in lengths.now names.now) }
 {
     let mut each = Vec::new(alloc);
@@ -224,7 +323,7 @@ fn names_of(alloc: Global, lengths: &[Lengths], names: &[u8]) -> Made<Vec<u8>>
     Ok(each)
 }
 
-fn texts_of<'a>(alloc: Global, lengths: &[Lengths], texts: &'a [u8]) -> Made<&'a [u8]>
+pub(crate) fn texts_of<'a>(alloc: Global, lengths: &[Lengths], texts: &'a [u8]) -> Made<&'a [u8]>
     ensures { IfOk result (λ each. map (λ text. text.now) each.items ≡ texts_in lengths.now texts.now) }
 {
     let mut each = Vec::new(alloc);

@@ -112,7 +112,7 @@ fn number_of(kind: &FindingKind<'_>) -> u32
     }
 }
 
-fn number_of_fault(fault: &Error<'_>) -> u32
+pub(crate) fn number_of_fault(fault: &Error<'_>) -> u32
     ensures { result ≡ fault_number (fault_of fault.now).kind }
 {
     match fault {

@@ -6,7 +6,7 @@ pub mod explanation;
 mod json;
 pub mod kinds;
 mod message;
-mod notice;
+pub mod notice;
 pub mod pieces;
 pub mod places;
 pub mod settings;

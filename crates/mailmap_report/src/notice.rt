@@ -24,7 +24,7 @@ use std::alloc::{AllocError, Global};
 
 /// What is reported at a line.
 #[derive(Drop)]
-pub(crate) struct Notice<'a> {
+pub struct Notice<'a> {
     pub kind: Kind,
     pub place: Place<'a>,
     /// What is said, without escapes.
@@ -34,7 +34,7 @@ pub(crate) struct Notice<'a> {
 }
 
 /// The notice of a finding in mailmaps with these names.
-pub(crate) fn finding_notice<'n>(
+pub fn finding_notice<'n>(
     alloc: Global,
     names: &'n [Vec<u8>],
     finding: &Finding<'_>,
@@ -52,7 +52,7 @@ pub(crate) fn finding_notice<'n>(
 }
 
 /// The notice of a remark on mailmaps.
-pub(crate) fn remark_notice<'n>(
+pub fn remark_notice<'n>(
     alloc: Global,
     names: &'n [Vec<u8>],
     remark: &Remark<'_>,
@@ -83,7 +83,7 @@ pub(crate) fn remark_notice<'n>(
 ///
 /// The numbers in brackets say how often each answer comes, and each email. Names and emails of more than 256 bytes are
 /// cut.
-pub(crate) fn contact_notice<'n>(
+pub fn contact_notice<'n>(
     alloc: Global,
     file: &'n [u8],
     finding: &ContactFinding<'_>,

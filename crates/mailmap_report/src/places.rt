@@ -10,7 +10,7 @@ use std::alloc::AllocError;
 
 /// A line of a file.
 #[derive(Clone, Copy)]
-pub(crate) struct Place<'a> {
+pub struct Place<'a> {
     pub file: &'a [u8],
     pub line: usize,
 }

@@ -1,14 +1,13 @@
 //! Reading a mailmap line by line.
-use crate::line::trimmed;
-use crate::sys::{self, Map};
+use crate::sys::{self, Cursor, Parsed};
 use crate::Entry;
 use std::fmt;
 
 /// An iterator over the lines of a mailmap, which [`parse()`](crate::parse()) makes.
 #[derive(Clone, Debug)]
 pub struct Lines<'a> {
-    rest: &'a [u8],
-    line: usize,
+    text: &'a [u8],
+    cursor: Cursor,
 }
 
 /// What is wrong with a line. It borrows from the buffer that is parsed.
@@ -28,23 +27,8 @@ pub enum Error<'a> {
 }
 
 impl<'a> Lines<'a> {
-    pub(crate) fn new(rest: &'a [u8]) -> Self {
-        Lines { rest, line: 0 }
-    }
-
-    /// The next line, without its line feed.
-    fn next_line(&mut self) -> Option<&'a [u8]> {
-        if self.rest.is_empty() {
-            return None;
-        }
-        self.line += 1;
-        let end = self.rest.iter().position(|&byte| byte == b'\n');
-        let (line, rest) = match end {
-            Some(end) => (&self.rest[..end], &self.rest[end + 1..]),
-            None => (self.rest, &b""[..]),
-        };
-        self.rest = rest;
-        Some(line)
+    pub(crate) fn new(text: &'a [u8]) -> Self {
+        Lines { text, cursor: Cursor::default() }
     }
 }
 
@@ -52,52 +36,26 @@ impl<'a> Iterator for Lines<'a> {
     type Item = Result<Entry<'a>, Error<'a>>;
 
     fn next(&mut self) -> Option<Self::Item> {
-        loop {
-            let line = self.next_line()?;
-            if matches!(line.first(), None | Some(b'#')) {
-                continue;
-            }
-            let item = item_of(line, self.line);
-            if item.is_some() {
-                return item;
-            }
-        }
+        let parsed = sys::parse(self.text, &mut self.cursor)?;
+        let (line, input) = (parsed.line, parsed.text.within(self.text));
+        Some(match parsed.kind {
+            0 => Ok(entry_of(self.text, &parsed)),
+            sys::NO_EMAIL => Err(Error::NoEmail { line, input }),
+            sys::MISSING_CLOSING_BRACKET => Err(Error::MissingClosingBracket { line, input }),
+            sys::EMPTY_EMAIL => Err(Error::EmptyEmail { line, input }),
+            _ => Err(Error::NothingToMap { line, input }),
+        })
     }
 }
 
-/// What a line is read as; `None` for white space. The library reads it as a mailmap of its own, and the texts of its
-/// entry are then found again in the line, so that they borrow from it.
-fn item_of(text: &[u8], line: usize) -> Option<Result<Entry<'_>, Error<'_>>> {
-    let mut texts = vec![0; text.len()];
-    if let Some(listed) = Map::open(text).entry(0, &mut texts) {
-        return Some(Ok(within(text, &listed.entry(&texts))));
-    }
-    let input = trimmed(text);
-    let error = |found: &sys::Found| match found.kind {
-        sys::NO_EMAIL => Some(Error::NoEmail { line, input }),
-        sys::MISSING_CLOSING_BRACKET => Some(Error::MissingClosingBracket { line, input }),
-        sys::EMPTY_EMAIL => Some(Error::EmptyEmail { line, input }),
-        // without its unclosed second email, the line has only an email
-        sys::NOTHING_TO_MAP | sys::UNCLOSED_SECOND => Some(Error::NothingToMap { line, input }),
-        _ => None,
-    };
-    sys::verify(text).iter().find_map(error).map(Err)
-}
-
-/// An entry with the texts of its line. They follow one another there, so each is looked for after the one before.
-fn within<'a>(line: &'a [u8], entry: &Entry<'_>) -> Entry<'a> {
-    let mut rest = line;
-    let mut place = |text: &[u8]| {
-        let start = (0..=rest.len() - text.len()).find(|&start| rest[start..].starts_with(text));
-        let (found, after) = rest[start.unwrap_or(0)..].split_at(text.len());
-        rest = after;
-        found
-    };
+/// The entry of a line. All of its texts but the old email are missing if they are empty.
+fn entry_of<'a>(text: &'a [u8], parsed: &Parsed) -> Entry<'a> {
+    let given = |place: sys::Place| Some(place.within(text)).filter(|text| !text.is_empty());
     Entry {
-        new_name: entry.new_name.map(&mut place),
-        new_email: entry.new_email.map(&mut place),
-        old_name: entry.old_name.map(&mut place),
-        old_email: place(entry.old_email),
+        new_name: given(parsed.new_name),
+        new_email: given(parsed.new_email),
+        old_name: given(parsed.old_name),
+        old_email: parsed.old_email.within(text),
     }
 }
 

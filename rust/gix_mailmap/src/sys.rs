@@ -68,6 +68,42 @@ pub struct Position {
     pub line: usize,
 }
 
+/// `gix_mailmap_place`
+#[repr(C)]
+#[derive(Clone, Copy, Default)]
+pub(crate) struct Place {
+    start: usize,
+    len: usize,
+}
+
+impl Place {
+    /// The text that is there.
+    pub(crate) fn within<'a>(&self, text: &'a [u8]) -> &'a [u8] {
+        &text[self.start..self.start + self.len]
+    }
+}
+
+/// `gix_mailmap_cursor`
+#[repr(C)]
+#[derive(Clone, Copy, Default, Debug)]
+pub(crate) struct Cursor {
+    start: usize,
+    lines: usize,
+}
+
+/// `gix_mailmap_parsed`
+#[repr(C)]
+#[derive(Clone, Copy, Default)]
+pub(crate) struct Parsed {
+    pub(crate) line: usize,
+    pub(crate) kind: u32,
+    pub(crate) text: Place,
+    pub(crate) new_name: Place,
+    pub(crate) new_email: Place,
+    pub(crate) old_name: Place,
+    pub(crate) old_email: Place,
+}
+
 /// `gix_mailmap_named`
 #[repr(C)]
 struct RawNamed {
@@ -82,6 +118,7 @@ const _: () = {
     use std::mem::size_of;
     assert!(size_of::<Field>() == 16 && size_of::<Listed>() == 72 && size_of::<Found>() == 24);
     assert!(size_of::<Position>() == 16 && size_of::<RawNamed>() == 32);
+    assert!(size_of::<Place>() == 16 && size_of::<Cursor>() == 16 && size_of::<Parsed>() == 96);
 };
 
 #[repr(C)]
@@ -132,8 +169,6 @@ extern "C" {
         texts: *mut u8,
         texts_len: usize,
     ) -> u32;
-    fn gix_mailmap_entry(map: *const RawMap, index: usize, entry: *mut Listed, texts: *mut u8, texts_len: usize)
-        -> u32;
     fn gix_mailmap_write(map: *const RawMap, out: *mut u8, out_len: usize, needed: *mut usize) -> u32;
     fn gix_mailmap_check(
         mailmap: *const u8,
@@ -199,6 +234,7 @@ extern "C" {
         out_len: usize,
         needed: *mut usize,
     ) -> u32;
+    fn gix_mailmap_parse(mailmap: *const u8, mailmap_len: usize, cursor: *mut Cursor, parsed: *mut Parsed) -> u32;
     fn gix_mailmap_stream_open(stream: *mut *mut RawStream, mailmap: *const u8, mailmap_len: usize) -> u32;
     fn gix_mailmap_stream_close(stream: *mut RawStream);
     fn gix_mailmap_stream_push(stream: *mut RawStream, part: *const u8, part_len: usize, taken: *mut usize) -> u32;
@@ -340,14 +376,6 @@ impl Map {
         });
     }
 
-    /// An entry, with its texts at the beginning of the buffer, if there is one at this index and it fits.
-    pub(crate) fn entry(&self, index: usize, texts: &mut [u8]) -> Option<Listed> {
-        let mut entry = Listed::default();
-        // SAFETY: the mailmap is open, and nothing changes it meanwhile.
-        let status = unsafe { gix_mailmap_entry(self.0.as_ptr(), index, &mut entry, texts.as_mut_ptr(), texts.len()) };
-        (status == OK).then_some(entry)
-    }
-
     /// The mailmap as a text, or the index of an entry that can't be written.
     pub(crate) fn write(&self) -> Result<Vec<u8>, usize> {
         let (entries, texts) = self.len();
@@ -412,6 +440,15 @@ impl Stream {
         // SAFETY: the stream is open, and nothing else uses it.
         unsafe { gix_mailmap_stream_read(self.0.as_ptr(), out.as_mut_ptr(), out.len()) }
     }
+}
+
+/// The next line that gives an entry or has a fault, if one is left.
+#[inline]
+pub(crate) fn parse(mailmap: &[u8], cursor: &mut Cursor) -> Option<Parsed> {
+    let mut parsed = Parsed::default();
+    // SAFETY: the call may run at any time.
+    let status = unsafe { gix_mailmap_parse(mailmap.as_ptr(), mailmap.len(), cursor, &mut parsed) };
+    (status == OK).then_some(parsed)
 }
 
 // Calls with neither a mailmap nor a stream. They may run at any time, and their only errors are a buffer that is too

@@ -1,4 +1,4 @@
-use Rattle.std.proofs.Common.{◌≡◌, ◌∙◌, Bor, List, ℕ, ap, map}
+use Rattle.std.proofs.Common.{◌∙◌, Bor, List, ℕ, ap, map}
 use Rattle.std.specs.Slice.Iter.{iter_rest}
 use Rattle.mailmap_entries.proofs.Results.{if_ok_map}
 use Rattle.mailmap_report.specs.Report.{text_of}

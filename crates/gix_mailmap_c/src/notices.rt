@@ -1,0 +1,289 @@
+//! Calls that say in words what is wrong with several mailmaps and with contacts.
+ghost use Rattle.std.specs.Prelude.{◌≡◌, ◌++◌, IfOk, List, OnErr, OnOk, length, map};
+ghost use Rattle.std.specs.Slice.Iter.{iter_rest};
+ghost use Rattle.mailmap_contacts.specs.Counts.{AreContactsOf};
+ghost use Rattle.mailmap_entries.specs.Folding.{Text};
+ghost use Rattle.mailmap_findings.specs.Positions.{whole_lines};
+ghost use Rattle.mailmap_report.specs.Json.{notice_of};
+ghost use Rattle.mailmap_report.specs.Report.{contact_notice as the_contact_notice, finding_notice as the_finding_notice};
+ghost use Rattle.mailmap_report.specs.Report.{remark_notice as the_remark_notice};
+ghost use Rattle.mailmap_suggestions.specs.FindingViews.{finding_view};
+ghost use Rattle.gix_mailmap_c.specs.Notices.{no_words, other_file, other_line, placed, with_notice, with_notices, words_of};
+ghost use Rattle.gix_mailmap_c.specs.Notices.{ArePutWords, AreWordsBeside, AreWordsOf, NoWords, PutsWords};
+ghost use Rattle.gix_mailmap_c.specs.Several.{names_in, texts_in};
+
+use crate::parsing::Place;
+use crate::several::{Lengths, counted_in, names_of, texts_of};
+use crate::status::{OK, OUT_OF_MEMORY, TOO_SHORT};
+use mailmap_contacts::answers::add_to_needs;
+use mailmap_contacts::counter::Contacts;
+use mailmap_findings::needs::Needs;
+use mailmap_findings::remarks::Remarks;
+use mailmap_findings::verify::{Findings, Mailmaps, Verification};
+use mailmap_report::notice::{Notice, contact_notice, finding_notice, remark_notice};
+use mailmap_suggestions::findings::{ContactFinding, contact_findings};
+use std::alloc::{AllocError, Global};
+
+/// A finding in words: the number of its line, from 1, and the places of its texts: the name of its file, its level, its
+/// kind, and what is said.
+///
+/// `other_line` and `other_file` are the other line that the message refers to; without one they are 0 and empty.
+#[repr(C)]
+#[derive(Clone, Copy)]
+pub struct Noticed {
+    pub line: usize,
+    pub other_line: usize,
+    pub file: Place,
+    pub level: Place,
+    pub kind: Place,
+    pub message: Place,
+    pub other_file: Place,
+}
+
+// Findings in words, and the buffer of their texts.
+#[derive(Drop)]
+pub(crate) struct Words {
+    listed: Vec<Noticed>,
+    texts: Vec<u8>,
+}
+
+impl Words {
+    fn new(alloc: Global) -> Words
+        ensures { words_of result ≡ no_words }
+    {
+        Words {
+            listed: Vec::new(alloc),
+            texts: Vec::new(alloc),
+        }
+    }
+}
+
+/// Lists the findings in several mailmaps in words, and copies their texts.
+///
+/// Takes the names and texts of mailmaps as [`gix_mailmap_text_report`](crate::several) does.
+///
+/// Returns `OK`: the findings are at the front of `out`, and their texts at the front of `out_texts`. `TOO_SHORT`: one of
+/// the buffers is too short, and both are unchanged. With these two `needed` and `texts_needed` are the lengths.
+/// `OUT_OF_MEMORY`: both are 0. The rest of each buffer is unchanged.
+#[unsafe(no_mangle)]
+pub extern "C" fn gix_mailmap_text_notices(
+    alloc: Global,
+    lengths: &[Lengths],
+    names: &[u8],
+    texts: &[u8],
+    out: &mut [Noticed],
+    out_texts: &mut [u8],
+    needed: &mut usize,
+    texts_needed: &mut usize,
+) -> u32
+    ensures { ArePutWords (AreWordsOf (names_in lengths.now names.now) (texts_in lengths.now texts.now))
+        out.old out.new out_texts.old out_texts.new needed.new texts_needed.new result }
+{
+    let made = words_alone(alloc, lengths, names, texts);
+    hand_words(made, out, out_texts, needed, texts_needed)
+}
+
+/// Lists the findings in several mailmaps and in contacts in words, those of
+/// [`PiecesBeside`](mailmap_report::pieces::PiecesBeside). `file` is the name of the contacts.
+///
+/// Takes the names and texts of mailmaps, and returns what [`gix_mailmap_text_notices`] does.
+#[unsafe(no_mangle)]
+pub extern "C" fn gix_mailmap_text_notices_beside(
+    alloc: Global,
+    lengths: &[Lengths],
+    names: &[u8],
+    texts: &[u8],
+    file: &[u8],
+    contacts: &[u8],
+    out: &mut [Noticed],
+    out_texts: &mut [u8],
+    needed: &mut usize,
+    texts_needed: &mut usize,
+) -> u32
+    ensures { ArePutWords (AreWordsBeside (names_in lengths.now names.now) (texts_in lengths.now texts.now) file.now
+        contacts.now) out.old out.new out_texts.old out_texts.new needed.new texts_needed.new result }
+{
+    let made = words_beside(alloc, lengths, names, texts, file, contacts);
+    hand_words(made, out, out_texts, needed, texts_needed)
+}
+
+fn words_alone(
+    alloc: Global,
+    lengths: &[Lengths],
+    names: &[u8],
+    texts: &[u8],
+) -> Result<Words, AllocError>
+    ensures { IfOk result (λ w. AreWordsOf (names_in lengths.now names.now) (texts_in lengths.now texts.now)
+        (words_of w)) }
+{
+    let names = names_of(alloc, lengths, names)?;
+    let buffers = texts_of(alloc, lengths, texts)?;
+    let mailmaps = Mailmaps::read(alloc, buffers.as_slice())?;
+    let verification = Verification::new(alloc, &mailmaps)?;
+    let mut words = Words::new(alloc);
+    push_findings(alloc, &mut words, names.as_slice(), verification.findings())?;
+    Ok(words)
+}
+
+fn words_beside(
+    alloc: Global,
+    lengths: &[Lengths],
+    names: &[u8],
+    texts: &[u8],
+    file: &[u8],
+    contacts: &[u8],
+) -> Result<Words, AllocError>
+    ensures { IfOk result (λ w. AreWordsBeside (names_in lengths.now names.now) (texts_in lengths.now texts.now)
+        file.now contacts.now (words_of w)) }
+{
+    let names = names_of(alloc, lengths, names)?;
+    let buffers = texts_of(alloc, lengths, texts)?;
+    let counted = counted_in(alloc, contacts)?;
+    words_counted(alloc, names.as_slice(), buffers.as_slice(), file, &counted)
+}
+
+fn words_counted(
+    alloc: Global,
+    names: &[Vec<u8>],
+    buffers: &[&[u8]],
+    file: &[u8],
+    counted: &Contacts,
+) -> Result<Words, AllocError>
+    ensures { (contacts : Text) → AreContactsOf (whole_lines contacts) counted.now
+        → IfOk result (λ w. AreWordsBeside (map (λ name. name.items) names.now) (map (λ b. b.now) buffers.now)
+        file.now contacts (words_of w)) }
+{
+    let findings = contact_findings(alloc, buffers, counted)?;
+    let mailmaps = Mailmaps::read(alloc, buffers)?;
+    let mut needs = Needs::new(alloc, &mailmaps)?;
+    add_to_needs(counted, &mut needs);
+    let unneeded = needs.unneeded(alloc)?;
+    let verification = Verification::new(alloc, &mailmaps)?;
+    let remarks = Remarks::new(verification.findings(), unneeded.as_slice());
+    let mut words = Words::new(alloc);
+    push_remarks(alloc, &mut words, names, remarks)?;
+    push_contact_findings(alloc, &mut words, file, findings.as_slice())?;
+    Ok(words)
+}
+
+fn push_findings(
+    alloc: Global,
+    words: &mut Words,
+    names: &[Vec<u8>],
+    findings: Findings<'_, '_>,
+) -> Result<(), AllocError>
+    ensures { OnOk result (words_of words.new ≡ with_notices (words_of words.old)
+        (map (the_finding_notice (map (λ name. name.items) names.now)) findings.entry)) }
+{
+    for finding in findings {
+        let notice = finding_notice(alloc, names, &finding)?;
+        push_notice(words, &notice)?;
+    }
+    Ok(())
+}
+
+fn push_remarks(
+    alloc: Global,
+    words: &mut Words,
+    names: &[Vec<u8>],
+    remarks: Remarks<'_, '_>,
+) -> Result<(), AllocError>
+    ensures { OnOk result (words_of words.new ≡ with_notices (words_of words.old)
+        (map (the_remark_notice (map (λ name. name.items) names.now)) remarks.entry)) }
+{
+    for remark in remarks {
+        let notice = remark_notice(alloc, names, &remark)?;
+        push_notice(words, &notice)?;
+    }
+    Ok(())
+}
+
+fn push_contact_findings(
+    alloc: Global,
+    words: &mut Words,
+    file: &[u8],
+    findings: &[ContactFinding<'_>],
+) -> Result<(), AllocError>
+    ensures { OnOk result (words_of words.new ≡ with_notices (words_of words.old)
+        (map (the_contact_notice file.now) (map finding_view findings.now))) }
+{
+    for finding in findings {
+        let notice = contact_notice(alloc, file, finding)?;
+        push_notice(words, &notice)?;
+    }
+    Ok(())
+}
+
+fn push_notice(words: &mut Words, notice: &Notice<'_>) -> Result<(), AllocError>
+    ensures { OnOk result (words_of words.new ≡ with_notice (words_of words.old) (notice_of notice.now)) }
+{
+    let (other_file, other_line) = other_of(notice);
+    let texts = &mut words.texts;
+    let file = put_text(texts, notice.place.file)?;
+    let level = put_text(texts, notice.kind.level().name().as_bytes())?;
+    let kind = put_text(texts, notice.kind.name().as_bytes())?;
+    let message = put_text(texts, notice.message.as_slice())?;
+    let other_file = put_text(texts, other_file)?;
+    words.listed.push(Noticed {
+        line: notice.place.line,
+        other_line,
+        file,
+        level,
+        kind,
+        message,
+        other_file,
+    })?;
+    Ok(())
+}
+
+// The other line that a notice refers to.
+fn other_of<'a>(notice: &'a Notice<'_>) -> (&'a [u8], usize)
+    ensures file { result.0.now ≡ other_file (notice_of notice.now).other }
+    ensures line { result.1 ≡ other_line (notice_of notice.now).other }
+{
+    let none: &[u8] = b"";
+    match notice.other {
+        Some(other) => (other.file, other.line),
+        None => (none, 0),
+    }
+}
+
+fn put_text(texts: &mut Vec<u8>, text: &[u8]) -> Result<Place, AllocError>
+    ensures { IfOk result (λ place. (place ≡ placed (length texts.old.items) text.now)
+        × (texts.new.items ≡ texts.old.items ++ text.now)) }
+{
+    let place = Place {
+        start: texts.len(),
+        len: text.len(),
+    };
+    texts.extend_from_slice(text)?;
+    Ok(place)
+}
+
+// Hands words to the caller.
+fn hand_words(
+    made: Result<Words, AllocError>,
+    out: &mut [Noticed],
+    out_texts: &mut [u8],
+    needed: &mut usize,
+    texts_needed: &mut usize,
+) -> u32
+    ensures ok { IfOk made (λ w. PutsWords (words_of w) out.old out.new out_texts.old out_texts.new needed.new
+        texts_needed.new result) }
+    ensures err { OnErr made (NoWords out.old out.new out_texts.old out_texts.new needed.new texts_needed.new result) }
+{
+    let Ok(words) = made else {
+        *needed = 0;
+        *texts_needed = 0;
+        return OUT_OF_MEMORY;
+    };
+    let (count, len) = (words.listed.len(), words.texts.len());
+    *needed = count;
+    *texts_needed = len;
+    if count > out.len() || len > out_texts.len() {
+        return TOO_SHORT;
+    }
+    out[..count].copy_from_slice(words.listed.as_slice());
+    out_texts[..len].copy_from_slice(words.texts.as_slice());
+    OK
+}
