@@ -118,7 +118,9 @@ typedef enum gix_mailmap_kind {
     GIX_MAILMAP_IGNORED_TEXT = 6,            /* text after the second email, or after the only one, is ignored */
     GIX_MAILMAP_NO_EFFECT = 7,               /* later lines override the line, or other lines already say it */
     GIX_MAILMAP_ITSELF_MAPPED = 8,           /* the line maps to a contact that the mailmap maps to another */
-    GIX_MAILMAP_GIT_READS = 9                /* git reads the line differently */
+    GIX_MAILMAP_GIT_READS = 9,               /* git reads the line differently */
+    GIX_MAILMAP_BYTE_ORDER_MARK = 10,        /* the mailmap begins with U+FEFF, which is a part of its first line */
+    GIX_MAILMAP_COMMENT_IN_LINE = 11         /* a name begins with `#`, which begins a comment only at the beginning */
 } gix_mailmap_kind;
 
 /* What is wrong with a line: its number, counted from 1, and one of these kinds. For GIX_MAILMAP_NO_EFFECT `beside` is
@@ -319,7 +321,7 @@ gix_mailmap_status gix_mailmap_prune(const char *mailmap, size_t mailmap_len, ch
                                      size_t out_len, size_t *GIX_MAILMAP_RESTRICT needed)
     GIX_MAILMAP_NONNULL(5) GIX_MAILMAP_MUST_CHECK;
 
-/* Writes what is wrong with the lines of a mailmap, in their order. A line has at most three findings. Removing all
+/* Writes what is wrong with the lines of a mailmap, in their order. A line has at most five findings. Removing all
  * lines of GIX_MAILMAP_NO_EFFECT together, as gix_mailmap_prune does, changes no answer; removing only some of them may
  * change how an email is spelled. `out_len` counts findings. `needed` is the number of all findings, and 0 on
  * OUT_OF_MEMORY.
@@ -332,8 +334,8 @@ gix_mailmap_status gix_mailmap_verify(const char *mailmap, size_t mailmap_len,
 /* Writes what is wrong with some mailmaps as text, as mailmap_verify prints it: a line for each finding, such as
  * `NAME:3: warning: no effect: OTHER:7 says the same [no-effect]`. The mailmaps are read one after another, as if they
  * were one: a line may have no effect beside a line of another mailmap. Control bytes are shown as `\x1b`, C1 control
- * characters and bidirectional formatting characters as `\u202e`. Names, emails and ignored texts of more than 256 bytes
- * are cut. `count` is the number of mailmaps. `needed` is the length of the text, and 0 on OUT_OF_MEMORY.
+ * characters and those of the general categories Cf, Zl and Zp as `\u202e` or `\U000e0001`. Names, emails and ignored
+ * texts of more than 256 bytes are cut. `count` is the number of mailmaps. `needed` is the length of the text, and 0 on OUT_OF_MEMORY.
  * OK; TOO_SHORT; OUT_OF_MEMORY. */
 gix_mailmap_status gix_mailmap_report(const gix_mailmap_named *mailmaps, size_t count, char *GIX_MAILMAP_RESTRICT out,
                                       size_t out_len, size_t *GIX_MAILMAP_RESTRICT needed)

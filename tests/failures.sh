@@ -109,8 +109,9 @@ fails "a second mode: --suggest"$'\n'"$usage" mailmap_verify '--contacts contact
 fails "no file after --contacts"$'\n'"$usage" mailmap_verify '--contacts'
 fails "no file after --suggest"$'\n'"$usage" mailmap_verify 'mailmap --suggest'
 fails "no level after -S"$'\n'"$usage" mailmap_verify 'mailmap -S'
-kinds='kinds: no-email unclosed-email empty-email nothing-to-map unclosed-second-email ignored-text git-reads no-effect'
-kinds="$kinds itself-mapped unneeded no-contact same-email shared-email same-name similar-name git-answers"
+kinds='kinds: no-email unclosed-email empty-email nothing-to-map unclosed-second-email byte-order-mark ignored-text'
+kinds="$kinds comment-in-line git-reads no-effect itself-mapped unneeded no-contact same-email shared-email same-name"
+kinds="$kinds similar-name git-answers"
 fails "unknown kind: foo"$'\n'"$kinds"$'\n'"$usage" mailmap_verify '--exclude=no-effect,foo mailmap'
 fails "unknown level: fatal"$'\n''levels: error warning note'$'\n'"$usage" mailmap_verify '-S fatal mailmap'
 fails "unknown format: xml"$'\n''formats: gcc json'$'\n'"$usage" mailmap_verify '--format=xml mailmap'

@@ -50,6 +50,8 @@ class Kind(IntEnum):
     NO_EFFECT = 7  #: Later lines override the line, or other lines say it. Removing all such lines changes no answer.
     ITSELF_MAPPED = 8  #: The line maps to a contact that the mailmap maps to another.
     GIT_READS = 9  #: git reads the line differently.
+    BYTE_ORDER_MARK = 10  #: The mailmap begins with U+FEFF, which is a part of its first line.
+    COMMENT_IN_LINE = 11  #: A name begins with `#`, which begins a comment only as the first byte of a line.
 
     @classmethod
     def _missing_(cls, value: object) -> Optional[Kind]:

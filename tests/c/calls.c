@@ -159,6 +159,10 @@ static void verify(void)
     WANT(is_finding(found[9], 99, 98, 97));
     found[0] = UNFOUND;
     WANT(gix_mailmap_verify(TEXT(MAP), found, 9, &needed) == GIX_MAILMAP_OK && needed == 0);
+    WANT(gix_mailmap_verify(TEXT("\xef\xbb\xbf # J <j@x>"), found, 2, &needed) == GIX_MAILMAP_OK && needed == 2);
+    WANT(is_finding(found[0], 1, GIX_MAILMAP_BYTE_ORDER_MARK, 0));
+    WANT(is_finding(found[1], 1, GIX_MAILMAP_COMMENT_IN_LINE, 0));
+    found[0] = UNFOUND;
     WANT(gix_mailmap_verify(TEXT(""), found, 0, &needed) == GIX_MAILMAP_OK && needed == 0);
     WANT(is_finding(found[0], 99, 98, 97));
 }

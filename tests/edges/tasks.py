@@ -1,4 +1,5 @@
 """What arguments ask for: files or standard input, modes and options, and characters that are escaped."""
+import unicodedata
 from pathlib import Path
 
 from runs import wants
@@ -116,18 +117,26 @@ GIT_LOG = [
     (b"", False),
 ]
 NOT_CONTACTS = b"the contacts are git log's own format: use git log --format='%an <%ae>'"
-# Control characters and those that turn the direction of text are escaped. Those beside them are as they are, and so are
-# all other characters and bytes that aren't UTF-8.
+# Control characters are escaped, and those that can't be seen or turn the direction of text. Those beside them are as
+# they are, and so are all other characters and bytes that aren't UTF-8.
 SHOWN = [
     (b"|\x00\x09\x1b[31m\x1f \\x1b\x7e\x7f\x80\x9f\xa0\xff|",
      b"|\\x00\\x09\\x1b[31m\\x1f \\x1b\x7e\\x7f\\x80\\x9f\xa0\xff|"),
     (b"\xc2\x80\xc2\x9b\xc2\x9f\xc2\xa0|", b"\\u0080\\u009b\\u009f\xc2\xa0|"),
+    (b"\xc2\xac\xc2\xad\xc2\xae", b"\xc2\xac\\u00ad\xc2\xae"),
     (b"\xd8\x9b\xd8\x9c\xd8\x9d", b"\xd8\x9b\\u061c\xd8\x9d"),
-    (b"\xe2\x80\x8d\xe2\x80\x8e\xe2\x80\x8f\xe2\x80\x90", b"\xe2\x80\x8d\\u200e\\u200f\xe2\x80\x90"),
-    (b"|\xe2\x80\xa9\xe2\x80\xaa\xe2\x80\xab\xe2\x80\xac", b"|\xe2\x80\xa9\\u202a\\u202b\\u202c"),
+    (b"|\xe2\x80\x8a\xe2\x80\x8b\xe2\x80\x8c", b"|\xe2\x80\x8a\\u200b\\u200c"),
+    (b"\xe2\x80\x8d\xe2\x80\x8e\xe2\x80\x8f\xe2\x80\x90", b"\\u200d\\u200e\\u200f\xe2\x80\x90"),
+    (b"\xe2\x80\xa7\xe2\x80\xa8|", b"\xe2\x80\xa7\\u2028|"),
+    (b"|\xe2\x80\xa9\xe2\x80\xaa\xe2\x80\xab\xe2\x80\xac", b"|\\u2029\\u202a\\u202b\\u202c"),
     (b"\xe2\x80\xad\xe2\x80\xae\xe2\x80\xaf|", b"\\u202d\\u202e\xe2\x80\xaf|"),
+    (b"|\xe2\x81\x9f\xe2\x81\xa0\xe2\x81\xa4", b"|\xe2\x81\x9f\\u2060\\u2064"),
     (b"\xe2\x81\xa5\xe2\x81\xa6\xe2\x81\xa7", b"\xe2\x81\xa5\\u2066\\u2067"),
-    (b"\xe2\x81\xa8\xe2\x81\xa9\xe2\x81\xaa", b"\\u2068\\u2069\xe2\x81\xaa"),
+    (b"\xe2\x81\xa8\xe2\x81\xa9\xe2\x81\xaa", b"\\u2068\\u2069\\u206a"),
+    (b"\xee\x80\x80\xef\xbb\xbf\xef\xbf\xbc", b"\xee\x80\x80\\ufeff\xef\xbf\xbc"),
+    (b"\xf0\x9d\x85\xb2\xf0\x9d\x85\xb3", b"\xf0\x9d\x85\xb2\\U0001d173"),
+    (b"\xf3\xa0\x80\x81\xf3\xa0\x80\xa0\xf3\xa0\x81\xbf\xf3\xa0\x84\x80",
+     b"\\U000e0001\\U000e0020\\U000e007f\xf3\xa0\x84\x80"),
     (b"\xc4\x80\x80\xe2\x82\x80\xf0\x9f\x98\x80", b"\xc4\x80\\x80\xe2\x82\x80\xf0\x9f\x98\x80"),
     (b"\xe2\x80x\xf0\x9f\x98x\xed\xa0\x80", b"\xe2\\x80x\xf0\\x9f\\x98x\xed\xa0\\x80"),
     (b"\xc2\xc2\x9b", b"\xc2\\u009b"),
@@ -158,6 +167,27 @@ GIT_READS = [
     (b" " * 1_015 + b"Joe <a@x>\n", b"nothing here"),
     (b"Jane <j@x>".ljust(1_023) + b"Joe <a@x>\n", b"it as 2 lines"),
 ]
+
+
+def escaped(character):
+    if unicodedata.category(character) not in ("Cf", "Zl", "Zp"):
+        return character
+    return f"\\u{ord(character):04x}" if character < "\U00010000" else f"\\U{ord(character):08x}"
+
+
+def wants_hidden():
+    """Each character that this Python knows is escaped if it is of one of three general categories. Returns how many
+    are.
+    """
+    known = [chr(code) for code in range(160, 0x110000) if unicodedata.category(chr(code)) not in ("Cn", "Cs")]
+    lines = ["".join(known[start:start + 1000]) for start in range(0, len(known), 1000)]
+    text = "".join(f"|{line}|\n" for line in lines).encode()
+    shown = "".join("|" + "".join(map(escaped, line)) + "| is no contact\n" for line in lines).encode()
+    status, printed, message = run(VERIFY, ["--explain"], input=text)
+    first = next((pair for pair in zip(printed.splitlines(), shown.splitlines()) if pair[0] != pair[1]), None)
+    wants("characters by their general categories", (status, repr(first).encode(), message), 0, b"None")
+    wants("characters by their general categories, all lines", (status, printed[-200:], message), 0, shown[-200:])
+    return sum(escaped(character) != character for character in known)
 
 
 def wants_git_reading(line, reading):
@@ -210,5 +240,6 @@ def shows():
         wants_git_reading(line, reading)
     yield f"{len(TASKS) + len(DEFAULT)} tasks: options, files and standard input as the manual pages have them"
     yield f"{len(GIT_LOG)} beginnings of contacts, of which those of git log's own format are refused"
-    yield f"{len(SHOWN)} texts in which characters are escaped"
+    hidden = wants_hidden()
+    yield f"{len(SHOWN)} texts in which characters are escaped, and {hidden} characters of Unicode {unicodedata.unidata_version}"
     yield f"{len(GIT_READS)} lines of a mailmap: git reads them as mailmap_verify says"

@@ -5,6 +5,7 @@ Everything depends only on a seed.
 from random import Random
 
 from git import PART
+from mailmap import MARK
 from shown import LIMIT
 
 # Spellings of names and emails that git and the library read alike, the common ones more than once. Letters that aren't
@@ -21,6 +22,11 @@ EMAILS = 4 * [[b"a@x", b"A@x"], [b"b@x", b"B@X"], [b"c@x"]] + [
 NAMES += [
     [b"\xe2\x80\xaeAnn", b"\xe2\x80\xaeANN"], [b"\xd8\x9cBob\xe2\x81\xa9"], [b"\xc2\x9b1m"], [b"\xe2\x80\x8f\xe2\x80"],
     [b"\xf0\x9f\x98\x80\xf0\x9f\x98"], [b"\xc4\x80\x80"],
+]
+# A byte order mark is one only at the beginning of a mailmap. Names of which the same is seen, and one that can't be seen.
+NAMES += [
+    [MARK + b"Ann"], [b"A\xe2\x80\x8bnn", b"A\xc2\xadNN"], [b"\xe2\x80\x8d"], [b"Bo\xe2\x80\xa8b"],
+    [b"J\xc3\xb6", b"Jo\xcc\x88", b"J\xf3\xa0\x80\x81o\xe2\x81\xa0\xcc\x88"],
 ]
 # Texts of about the length at which findings cut them. A character may begin up to four bytes before that, or bytes
 # that are none.
@@ -129,7 +135,8 @@ class Writer:
         return text[:-1] if text and self.choices.chance(0.25) else text
 
     def mailmap(self):
-        return self.put_together(self.line, [2, 6, 12, 26])
+        text = self.put_together(self.line, [2, 6, 12, 26])
+        return MARK + text if self.choices.chance(0.06) else text
 
     # ---- contacts
 

@@ -10,7 +10,7 @@ from findings import (
 )
 from git import git_answer, git_entries_of
 from mailmap import answer, contact_of, lines, new_fields, trim
-from shown import shortened, shown
+from shown import alike_text, shortened, shown
 from suggest import BY_EMAIL, is_remembered, proper, suggested_blocks, tallied, tallies_of
 
 
@@ -75,7 +75,10 @@ def said_of_others(block, answers):
         # the proper one by the counts that are shown
         level, words, kind, best = note, b"has the name of", b"same-name", [proper(members)] if members else []
     pairs = [(one, of) for of in best for one in members if one != of]
-    return [(one.line, level(b"%b %b %b" % (counted(one), words, counted(of)), kind)) for one, of in pairs]
+    return [
+        (one.line, level(b"%b %b %b%b" % (counted(one), words, counted(of), alike_text(one.name, of.name)), kind))
+        for one, of in pairs
+    ]
 
 
 def said_of_block(block, answers):

@@ -7,9 +7,9 @@ from typing import NamedTuple
 
 import git
 from mailmap import (
-    LocatedEntry, Position, cut, entries, entry_of, folded, lines, new_fields, read, trim, with_effect
+    MARK, LocatedEntry, Position, cut, entries, entry_of, folded, lines, new_fields, read, trim, with_effect
 )
-from shown import shortened, shown
+from shown import alike_text, shortened, shown
 
 
 class Line(NamedTuple):
@@ -117,24 +117,41 @@ def ignored_text(text):
     return b"ignored text: " + shortened(text) + cure
 
 
+def is_marked(line):
+    return line.position.line == 1 and line.text.startswith(MARK)
+
+
+def unmarked(text):
+    return text.removeprefix(MARK)
+
+
+COMMENT = b"the name begins with #, which begins a comment only as the first byte of a line"
+
+
 def said_by_itself(line):
-    """Findings about the text of a line: a fault or ignored text, and what git reads."""
+    """Findings about the text of a line: a fault or ignored text, a name like a comment, and what git reads."""
     strictly = read(line, strict=True)
     if isinstance(strictly, bytes):
         yield error(strictly, FAULTS[strictly])
     elif strictly and ignored(line):
         yield warning(ignored_text(ignored(line)), b"ignored-text")
+    entry = entry_of(line)
+    if entry and any(name and name.startswith(b"#") for name in (entry.new_name, entry.old_name)):
+        yield warning(COMMENT, b"comment-in-line")
     if git.reads_otherwise(line):
         yield warning(b"git reads " + git.reading_text(line), b"git-reads")
 
 
-def mapped_on(merged, entry):
+def mapped_on(merged, entry, bare):
     """The contact that an entry maps to, and what that is mapped to. A contact without a name is looked up by its
-    email.
+    email. `bare` says that the entry is that of a line without its byte order mark: then marks before new names don't
+    count.
     """
     name = entry.old_name if entry.new_name is None else entry.new_name
     email = entry.old_email if entry.new_email is None else entry.new_email
     new_name, new_email = new_fields(merged, name or b"", email)
+    if bare and new_name is not None:
+        new_name = trim(unmarked(new_name)) or None
     on_name = name if name is None or new_name is None else new_name
     return (name, email), (on_name, email if new_email is None else new_email)
 
@@ -145,22 +162,28 @@ def says_same(one, other):
 
 
 def said_by_effect(mailmaps, names, line):
-    """Findings about the entry of a line: no effect, or a contact that is itself mapped."""
-    entry = entry_of(line.text)
+    """Findings about the entry of a line: no effect, or a contact that is itself mapped. What is said is said of the
+    line without a byte order mark.
+    """
+    entry, bare = entry_of(line.text), is_marked(line)
+    taken = entry_of(unmarked(line.text)) if bare else entry
     if entry and not mailmaps.has_effect(line.position):
         beside = [one for one in mailmaps.effective if one.entry.key == entry.key][-1]
-        what = b"the same" if says_same(entry, beside.entry) else b"something else"
+        what = b"the same" if says_same(taken or entry, beside.entry) else b"something else"
         yield warning(b"no effect: %b says %b" % (position_text(names, beside.position), what), b"no-effect")
-    elif entry:
-        contact, on = mapped_on(mailmaps.merged, entry)
+    elif entry and taken:
+        contact, on = mapped_on(mailmaps.merged, taken, bare)
         if contact != on:
             by = positions_text(names, behind(mailmaps, contact[0] or b"", contact[1]))
             shown_ones = short_contact_text(*contact), short_contact_text(*on)
-            yield warning(b"%b is itself mapped, to %b by %b" % (*shown_ones, by), b"itself-mapped")
+            alike = alike_text(contact[0] or b"", on[0] or b"")
+            yield warning(b"%b is itself mapped, to %b by %b%b" % (*shown_ones, by, alike), b"itself-mapped")
 
 
 def findings(mailmaps, names, line):
-    return [*said_by_itself(line.text), *said_by_effect(mailmaps, names, line)]
+    mark = [warning(b"byte order mark: delete it", b"byte-order-mark")] if is_marked(line) else []
+    text = unmarked(line.text) if is_marked(line) else line.text
+    return [*mark, *said_by_itself(text), *said_by_effect(mailmaps, names, line)]
 
 
 def verify(buffers, names):

@@ -12,6 +12,9 @@ WHITE_SPACE = tuple(
     for code in [*range(9, 14), 32, 0x85, 0xA0, 0x1680, *range(0x2000, 0x200B), 0x2028, 0x2029, 0x202F, 0x205F, 0x3000]
 )
 
+# U+FEFF
+MARK = b"\xef\xbb\xbf"
+
 
 # ---- texts
 

@@ -81,6 +81,12 @@ class Texts(unittest.TestCase):
             (b"J\0e <joe@x>", [
                 (1, Kind.GIT_READS, None, "nothing here", "warning: git reads nothing here [git-reads]"),
             ]),
+            (b"\xef\xbb\xbf # J <j@x>", [
+                (1, Kind.BYTE_ORDER_MARK, None, None, "warning: byte order mark: delete it [byte-order-mark]"),
+                (1, Kind.COMMENT_IN_LINE, None, None,
+                 "warning: the name begins with #, which begins a comment only as the first byte of a line "
+                 "[comment-in-line]"),
+            ]),
             (MAP, []),
             (b"", []),
         ]

@@ -137,13 +137,13 @@ class Errors(unittest.TestCase):
 
     def test_kinds_of_a_later_library(self):
         said = ":1: warning: no effect: :2 says the same [no-effect]\n:3: warning: odd [odd]\n"
-        with mock.patch.object(_native, "verify", lambda _text: ([(1, 7, 2), (3, 10, 0)], said)):
+        with mock.patch.object(_native, "verify", lambda _text: ([(1, 7, 2), (3, 100, 0)], said)):
             known, later = gix_mailmap.verify("")
         words = "warning: no effect: line 2 says the same [no-effect]"
         self.assertEqual(known, Finding(1, Kind.NO_EFFECT, 2, None, words))
-        self.assertEqual(later, Finding(3, Kind(10), None, None, "warning: odd [odd]"))
-        self.assertEqual((later.kind, later.kind.name, str(later.kind)), (10, "NUMBER_10", "10"))
-        for wrong in (0, -1, "10"):
+        self.assertEqual(later, Finding(3, Kind(100), None, None, "warning: odd [odd]"))
+        self.assertEqual((later.kind, later.kind.name, str(later.kind)), (100, "NUMBER_100", "100"))
+        for wrong in (0, -1, "100"):
             with self.assertRaises(ValueError):
                 Kind(wrong)
 

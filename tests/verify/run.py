@@ -19,6 +19,7 @@ import base64
 import json
 import os
 import re
+import subprocess
 import sys
 import tempfile
 from pathlib import Path
@@ -26,6 +27,7 @@ from pathlib import Path
 sys.dont_write_bytecode = True
 sys.path.append(str(Path(__file__).resolve().parent.parent))
 import runs
+from repository import QUIET, has_git
 from runs import run, wants
 from hostile import CURE, LIMIT, REFUSED, hostile  # the file beside this one
 
@@ -36,7 +38,7 @@ def as_standard_input(printed):
     """The output for the file m1 if it is standard input."""
     begun = re.sub(rb"^m1:", b"<stdin>:", printed, flags=re.MULTILINE)
     begun = re.sub(rb"(: warning: no effect: )m1:(?=[0-9]+ says )", rb"\1<stdin>:", begun, flags=re.MULTILINE)
-    by = rb" by m1:[0-9]+(, m1:[0-9]+)? \[itself-mapped\]$"
+    by = rb" by m1:[0-9]+(, m1:[0-9]+)?( \(they look the same\))? \[itself-mapped\]$"
     return re.sub(by, lambda found: found[0].replace(b"m1:", b"<stdin>:"), begun, flags=re.MULTILINE)
 
 
@@ -194,9 +196,9 @@ def file_names(program):
 HELPS = {
     b"unknown level": b"levels: error warning note\n",
     b"unknown format": b"formats: gcc json\n",
-    b"unknown kind": b"kinds: no-email unclosed-email empty-email nothing-to-map unclosed-second-email ignored-text "
-                     b"git-reads no-effect itself-mapped unneeded no-contact same-email shared-email same-name "
-                     b"similar-name git-answers\n",
+    b"unknown kind": b"kinds: no-email unclosed-email empty-email nothing-to-map unclosed-second-email byte-order-mark "
+                     b"ignored-text comment-in-line git-reads no-effect itself-mapped unneeded no-contact same-email "
+                     b"shared-email same-name similar-name git-answers\n",
 }
 USAGE_LINE = (
     b"usage: mailmap_verify [--prune | --explain | --contacts CONTACTS | --suggest CONTACTS] [-S LEVEL] [-e KIND,..]\n"
@@ -265,6 +267,130 @@ def options(program):
     said = b"mailmap_verify: -: No such file or directory\n"
     wants("- among files", run(program, ["-x", "-"]), 2, b"", b"mailmap_verify: unknown option: -x\n" + USAGE_LINE)
     wants("- among files", run(program, ["--", "-x", "-"]), 2, b"", said)
+
+
+MARK = b"\xef\xbb\xbf"
+MARKED = b"m:1: warning: byte order mark: delete it [byte-order-mark]\n"
+COMMENT = b"m:%d: warning: the name begins with #, which begins a comment only as the first byte of a line [comment-in-line]\n"
+# A mailmap, and what is found in it. git 2.39 and mailmap_check take the mark for a part of the first line.
+MARKS = [
+    (MARK, MARKED),
+    (MARK + b"\n", MARKED),
+    (MARK + b"# why\n", MARKED),
+    (MARK + b"# Jane <jane@x>\n", MARKED),
+    (MARK + b"Jane <jane@x> <jd@y>\n", MARKED),
+    (MARK + b"Jane <jane@x>\n", MARKED),
+    (MARK + b" Jane <jane@x>\n", MARKED),
+    (MARK + MARK + b"Jane <jane@x>\n", MARKED),
+    (MARK + b"plain\n", MARKED + b"m:1: error: no email in brackets [no-email]\n"),
+    (MARK + b"<jane@x>\n", MARKED + b"m:1: error: an email alone maps nothing [nothing-to-map]\n"),
+    (MARK + b"Joe <joe@x> joe\n", MARKED + b"m:1: warning: ignored text: joe" + CURE + b" [ignored-text]\n"),
+    (MARK + b" # Joe <joe@x>\n", MARKED + COMMENT % 1),
+    (MARK + b"Joe < joe@x >\n", MARKED + b"m:1: warning: git reads it as Joe < joe@x > [git-reads]\n"),
+    # the new name is Jane, whatever the entries make of it
+    (MARK + b"Jane <jane@x> <jd@y>\nJane <jane@x>\n", MARKED),
+    (MARK + b"Jane <jane@x> <jd@y>\nJane Doe <jane@x>\n",
+     MARKED + b"m:1: warning: Jane <jane@x> is itself mapped, to Jane Doe <jane@x> by m:2 [itself-mapped]\n"),
+    (MARK + b"Jane <jane@x>\nJane <jane@x>\n", MARKED + b"m:1: warning: no effect: m:2 says the same [no-effect]\n"),
+    (MARK + b"Jane <jane@x>\nJ <jane@x>\n", MARKED + b"m:1: warning: no effect: m:2 says something else [no-effect]\n"),
+    # no byte order mark
+    (b"\n" + MARK + b"Jane <jane@x>\n", b""),
+    (b" " + MARK + b"Jane <jane@x>\n", b""),
+    (b"Jane <jane@x> " + MARK + b"jd <jd@y>\n", b""),
+    (MARK[:2] + b"Jane <jane@x>\n", b""),
+    (MARK[:2], b"m:1: error: no email in brackets [no-email]\n"),
+    (MARK[:2] + b"\xbeJane <jane@x>\n", b""),
+    # a comment begins with the first byte of a line
+    (b" # Jane <j@x>\n", COMMENT % 1),
+    (b"Joe <joe@x> # not <old@x>\n", COMMENT % 1),
+    (b"<joe@x> #<old@x>\n", COMMENT % 1),
+    (b"\t#1 <joe@x> #2 <old@x>\n", COMMENT % 1),
+    (b"Joe <joe@x> # not <old@x> #\n", b"m:1: warning: ignored text: # [ignored-text]\n" + COMMENT % 1),
+    (b" #1 <joe@x> joe <old\n", b"m:1: error: the second '<' has no '>' [unclosed-second-email]\n" + COMMENT % 1),
+    (b"# Jane <j@x>\n", b""),
+    (b"Jane # <j@x>\n", b""),
+    (b"Jane <#j@x> Joe # <#@x>\n", b""),
+    (b"Jane <j@x> # why\n", b"m:1: warning: ignored text: # why [ignored-text]\n"),
+]
+
+# A mailmap, contacts, and git's answers: a mark and a `#` become a part of a name.
+GIT_ANSWERS = [
+    (MARK + b"Jane <jane@x> <jd@y>\n", b"jd <jd@y>\n", MARK + b"Jane <jane@x>\n"),
+    (MARK + b"# Jane <jane@x>\n", b"J <jane@x>\n", MARK + b"# Jane <jane@x>\n"),
+    (b"\n" + MARK + b"Jane <jane@x>\n", b"J <jane@x>\n", MARK + b"Jane <jane@x>\n"),
+    (b" # Jane <j@x>\n", b"jd <j@x>\n", b"# Jane <j@x>\n"),
+    (b"Joe <joe@x> # not <old@x>\n", b"# not <old@x>\nold <old@x>\n", b"Joe <joe@x>\nold <old@x>\n"),
+]
+
+
+def marks_as_git():
+    if not has_git("byte order marks and names like comments beside git"):
+        return
+    subprocess.run(["git", "init", "-q", "."], check=True, env=QUIET)
+    for mailmap, contacts, answers in GIT_ANSWERS:
+        Path(".mailmap").write_bytes(mailmap)
+        ended = subprocess.run(["git", "check-mailmap", "--stdin"], input=contacts, capture_output=True, env=QUIET)
+        wants(f"what git answers with {mailmap}", (ended.returncode, ended.stdout, ended.stderr), 0, answers)
+    Path(".mailmap").unlink()
+
+
+def marks(program):
+    marks_as_git()
+    for mailmap, printed in MARKS:
+        Path("m").write_bytes(mailmap)
+        wants(f"what is found in {mailmap}", run(program, ["m"]), 1 if printed else 0, printed)
+    # each mailmap may begin with one
+    Path("m").write_bytes(b"plain\n" + MARK + b"Jane <jane@x>\n")
+    Path("n").write_bytes(MARK + b"Jo <jo@x>\n")
+    printed = b"m:1: error: no email in brackets [no-email]\n" + MARKED.replace(b"m:", b"n:", 1)
+    wants("two mailmaps, one with a mark", run(program, ["m", "n"]), 1, printed)
+    wants("a mark that is left out", run(program, ["-e", "byte-order-mark", "n"]), 0, b"")
+    wants("a mark that stays", run(program, ["--prune", "n"]), 0, MARK + b"Jo <jo@x>\n")
+    return len(MARKS)
+
+
+ALIKE = b" (they look the same)"
+# The names of two contacts with one email, each with how it is shown, and whether they look the same: whether they are
+# equal in NFC without characters of the general categories Cf, Zl and Zp.
+NAMES = [
+    (b"Jos\xc3\xa9", b"Jos\xc3\xa9", b"Jose\xcc\x81", b"Jose\xcc\x81", True),
+    (b"Jose", b"Jose", b"Jo\xe2\x80\x8bse", b"Jo\\u200bse", True),
+    (b"Jo\xc2\xadse", b"Jo\\u00adse", b"Jo\xef\xbb\xbfse", b"Jo\\ufeffse", True),
+    (b"Jo\xe2\x80\xa8se", b"Jo\\u2028se", b"Jo\xe2\x80\xa9se", b"Jo\\u2029se", True),
+    (b"Jose\xf3\xa0\x81\xbf", b"Jose\\U000e007f", b"\xe2\x81\xa0Jose", b"\\u2060Jose", True),
+    (b"Jos\xc3\xa9", b"Jos\xc3\xa9", b"Jose\xe2\x80\x8d\xcc\x81", b"Jose\\u200d\xcc\x81", True),
+    (b"\xe2\x84\xaaim", b"\xe2\x84\xaaim", b"Kim", b"Kim", True),
+    (b"n" * 256 + b"a", b"n" * 256 + b"..", b"n" * 256 + b"b", b"n" * 256 + b"..", True),
+    (b"\xe2\x80\x8b", b"\\u200b", b"\xe2\x80\x8c", b"\\u200c", True),
+    (b"Jose", b"Jose", b"jose", b"jose", False),
+    (b"Jose", b"Jose", b"Jos\xc3\xa9", b"Jos\xc3\xa9", False),
+    (b"Jo se", b"Jo se", b"Jo\xc2\xa0se", b"Jo\xc2\xa0se", False),
+    (b"\xef\xac\x81n", b"\xef\xac\x81n", b"fin", b"fin", False),
+    (b"A", b"A", b"\xd0\x90", b"\xd0\x90", False),
+    (b"A\x01", b"A\\x01", b"A", b"A", False),
+    (b"A\xff", b"A\xff", b"A\xfe", b"A\xfe", False),
+    (b"A\xff", b"A\xff", b"A\xff\xe2\x80\x8b", b"A\xff\\u200b", False),
+]
+
+
+def look_alikes(program):
+    for one, shown_one, other, shown_other, alike in NAMES:
+        printed = b"<stdin>:2: warning: %b <m@x> (1) has the email of %b <m@x> (1)%b [same-email]\n"
+        printed %= shown_other, shown_one, ALIKE if alike else b""
+        contacts = b"%b <m@x>\n%b <m@x>\n" % (one, other)
+        wants(f"{contacts}", run(program, ["--contacts", "-", "-e", "git-answers"], contacts), 1, printed)
+    # a note, an entry, and JSON, in which nothing is escaped
+    contacts = b"Jos\xc3\xa9 Lee <j@x>\nJose\xcc\x81 Lee <j@y>\n"
+    wants("a name that looks like another", run(program, ["--contacts", "-"], contacts), 0,
+          b"<stdin>:2: note: Jose\xcc\x81 Lee <j@y> (1) has a name like Jos\xc3\xa9 Lee <j@x> (1) (they look the same) "
+          b"[similar-name]\n")
+    Path("m").write_bytes(b"Jo <j@x> <o@x>\nJ\xc2\xado <j@x>\n")
+    wants("a contact that is mapped to one that looks the same", run(program, ["m"]), 1,
+          b"m:1: warning: Jo <j@x> is itself mapped, to J\\u00ado <j@x> by m:2 (they look the same) [itself-mapped]\n")
+    status, printed, said = run(program, ["-f", "json", "m"])
+    message = {"text": "Jo <j@x> is itself mapped, to J\xado <j@x> by m:2 (they look the same)"}
+    wants("an object about names that look the same", (status, json.loads(printed)["message"], said), 1, message)
+    return len(NAMES)
 
 
 def filters(program):
@@ -383,10 +509,14 @@ def main():
         hostile_beside(program)
         file_names(program)
         options(program)
+        mark_count = marks(program)
+        alike_count = look_alikes(program)
         filters(program)
         objects(program)
         os.chdir("/")
     print(f"{count} stored mailmaps and {hostile_count} hostile ones, contacts of {explained_count} histories")
+    print(f"{mark_count} mailmaps with and without byte order marks and names like comments")
+    print(f"{alike_count} pairs of names that look the same or not")
     print(f"verify: {runs.passed} passed, {runs.failed} failed")
     sys.exit(1 if runs.failed or (count, explained_count) != (800, 400) else 0)
 

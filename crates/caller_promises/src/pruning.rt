@@ -28,7 +28,7 @@ pub fn pruned_twice(alloc: Global, buffer: &[u8]) -> Result<Vec<u8>, AllocError>
 }
 
 /// The findings in a pruned text, whatever mailmap it comes from: no line is without effect, and the other findings are
-/// those of the mailmap's kept lines, with their new line numbers.
+/// those of the mailmap's kept lines, with their new line numbers, unless a byte order mark gets to the beginning.
 pub fn findings_left<'a>(alloc: Global, pruned: &'a [u8]) -> Result<Vec<Finding<'a>>, AllocError>
     ensures { IfOk result (λ left. (buffer : Text) (found : List Found) → IsPruned buffer pruned.now
         → AreFindings (buffer ∷ []) found → AreFindingsLeft buffer found (map finding_of left.items)) }

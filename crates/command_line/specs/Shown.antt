@@ -1,7 +1,10 @@
 -- Escapes for what a terminal takes for control.
-use Rattle.std.specs.Prelude.{ℕ, ◌/◌, ◌%◌, nat_lt, nat_le, Bool, ◌==◌, ◌||◌, ◌&&◌, if◌then◌else◌, List, [], ◌∷◌, ◌++◌, take, drop, Option, Some, None, codes, slice_index}
+use Rattle.std.specs.Prelude.{ℕ, ◌/◌, ◌%◌, nat_lt, Bool, true, false, ◌||◌, ◌&&◌, if◌then◌else◌, List, [], ◌∷◌, ◌++◌, take, drop, Option, Some, None, codes, slice_index}
 use Rattle.std.specs.List.{flat_map}
 use Rattle.bstr.specs.Utf8.{Decoded, pieces}
+use Rattle.ucd_category.specs.GeneralCategory.{general_category}
+use Rattle.ucd_category.specs.declared.GeneralCategory.{GeneralCategory}
+use Rattle.ucd_category.specs.declared.GeneralCategory.TheVariants.{Format, LineSeparator, ParagraphSeparator}
 
 abbrev pub hex_digit : ℕ → ℕ
 hex_digit value = slice_index (codes "0123456789abcdef") value
@@ -18,21 +21,35 @@ is_control code = nat_lt code 32 || (nat_lt 126 code && nat_lt code 160)
 abbrev pub is_special : ℕ → Bool
 is_special byte = nat_lt byte 32 || nat_lt 126 byte
 
--- a character that turns the direction of text
-abbrev pub turns_text : ℕ → Bool
-turns_text char = char == 0x61C || char == 0x200E || char == 0x200F || (nat_le 0x202A char && nat_le char 0x202E)
-    || (nat_le 0x2066 char && nat_le char 0x2069)
+-- a character that can't be seen, or that turns the direction of text: one of the general categories Cf, Zl and Zp
+abbrev pub is_hidden_category : GeneralCategory → Bool
+is_hidden_category Format = true
+is_hidden_category LineSeparator = true
+is_hidden_category ParagraphSeparator = true
+is_hidden_category _ = false
+
+abbrev pub is_hidden : ℕ → Bool
+is_hidden char = is_hidden_category (general_category char)
 
 -- a control byte becomes `\x` and two hexadecimal digits
 abbrev pub shown_byte : ℕ → List ℕ
 shown_byte byte = if is_control byte then 92 ∷ 120 ∷ hex_byte byte else byte ∷ []
 
--- A character above 127 that controls or turns text becomes `\u` and four hexadecimal digits. In ASCII, and outside of
--- characters, control bytes are escaped.
+-- the last four hexadecimal digits of a code point
+abbrev pub last_four : ℕ → List ℕ
+last_four code = hex_byte (code / 256 % 256) ++ hex_byte (code % 256)
+
+-- `\u` and four hexadecimal digits, or `\U` and eight
+abbrev pub shown_code : ℕ → List ℕ
+shown_code code = if nat_lt code 65536 then 92 ∷ 117 ∷ last_four code
+    else 92 ∷ 85 ∷ 48 ∷ 48 ∷ hex_byte (code / 65536 % 256) ++ last_four code
+
+-- A character above 127 that controls, or that is hidden, is shown by its number. In ASCII, and outside of characters,
+-- control bytes are escaped.
 abbrev pub shown_piece : Option ℕ → List ℕ → List ℕ
 shown_piece None bytes = flat_map shown_byte bytes
 shown_piece (Some char) bytes = if nat_lt char 128 then flat_map shown_byte bytes
-    else if is_control char || turns_text char then 92 ∷ 117 ∷ hex_byte (char / 256) ++ hex_byte (char % 256) else bytes
+    else if is_control char || is_hidden char then shown_code char else bytes
 
 -- a text that begins with these pieces, one after another
 abbrev pub shown_pieces : List Decoded → List ℕ → List ℕ

@@ -1,14 +1,15 @@
-//! Escapes what could control a terminal, so that texts can be shown in one.
-ghost use Rattle.std.specs.Prelude.{◌≡◌, ◌<◌, ◌/◌, ◌%◌, ◌++◌, ◌∷◌, OnOk, false};
+//! Escapes what could control a terminal or can't be seen there, so that texts can be shown in one.
+ghost use Rattle.std.specs.Prelude.{◌≡◌, ◌++◌, OnOk, false};
 ghost use Rattle.std.specs.List.{flat_map, list_any};
-ghost use Rattle.command_line.specs.Shown.{hex_byte, is_control, is_special, shown, shown_byte, shown_piece};
-ghost use Rattle.command_line.specs.Shown.{turns_text};
+ghost use Rattle.command_line.specs.Shown.{hex_byte, is_control, is_hidden, is_special, last_four, shown};
+ghost use Rattle.command_line.specs.Shown.{shown_byte, shown_code, shown_piece};
 
 use bstr::decode_utf8;
 use std::alloc::AllocError;
+use ucd_category::GeneralCategory;
 
-/// Appends a text with control bytes escaped as in `\x1b`, and control characters beyond ASCII and characters that
-/// turn the direction of text as in `\u202e`. All other bytes are as they are.
+/// Appends a text with control bytes escaped as in `\x1b`, and control characters beyond ASCII and hidden characters
+/// ([`is_hidden`]) as in `\u202e` or `\U000e0001`. All other bytes are as they are.
 ///
 /// Control bytes are those below 32, 127, and from 128 to 159 those outside of UTF-8 characters. Mailmaps come from
 /// strangers, and reports are read in terminals.
@@ -50,7 +51,7 @@ fn push_piece(line: &mut Vec<u8>, char: Option<char>, bytes: &[u8]) -> Result<()
     if code < 128 {
         return push_bytes(line, bytes);
     }
-    if is_control(code) || turns_text(code) {
+    if is_control(code) || is_hidden(char) {
         return push_code(line, code);
     }
     line.extend_from_slice(bytes)
@@ -62,15 +63,17 @@ fn is_control(code: u32) -> bool
     code < 32 || (126 < code && code < 160)
 }
 
-// Whether the character turns the direction of text: the marks, embeddings, overrides and isolates.
-fn turns_text(char: u32) -> bool
-    ensures { result ≡ turns_text char }
+/// Whether a character can't be seen, or turns the direction of text: whether its general category is Cf, Zl or Zp.
+/// Such are a zero-width space, a byte order mark and a tag. Some of the category Cf can be seen, as U+0600.
+pub fn is_hidden(char: char) -> bool
+    ensures { result ≡ is_hidden char }
 {
-    char == 0x61C
-        || char == 0x200E
-        || char == 0x200F
-        || (0x202A <= char && char <= 0x202E)
-        || (0x2066 <= char && char <= 0x2069)
+    match GeneralCategory::for_char(char) {
+        GeneralCategory::Format => true,
+        GeneralCategory::LineSeparator => true,
+        GeneralCategory::ParagraphSeparator => true,
+        _ => false,
+    }
 }
 
 fn push_bytes(line: &mut Vec<u8>, bytes: &[u8]) -> Result<(), AllocError>
@@ -93,13 +96,23 @@ fn push_byte(line: &mut Vec<u8>, byte: u8) -> Result<(), AllocError>
     Ok(())
 }
 
+// Appends a code point.
 fn push_code(line: &mut Vec<u8>, code: u32) -> Result<(), AllocError>
-    requires { code < 65536 }
-    ensures { OnOk result (line.new.items
-        ≡ line.old.items ++ 92 ∷ 117 ∷ hex_byte (code / 256) ++ hex_byte (code % 256)) }
+    ensures { OnOk result (line.new.items ≡ line.old.items ++ shown_code code) }
 {
-    line.extend_from_slice(b"\\u")?;
-    push_hex(line, (code / 256) as u8)?;
+    if code < 65536 {
+        line.extend_from_slice(b"\\u")?;
+        return push_last_four(line, code);
+    }
+    line.extend_from_slice(b"\\U00")?;
+    push_hex(line, (code / 65536 % 256) as u8)?;
+    push_last_four(line, code)
+}
+
+fn push_last_four(line: &mut Vec<u8>, code: u32) -> Result<(), AllocError>
+    ensures { OnOk result (line.new.items ≡ line.old.items ++ last_four code) }
+{
+    push_hex(line, (code / 256 % 256) as u8)?;
     push_hex(line, (code % 256) as u8)
 }
 

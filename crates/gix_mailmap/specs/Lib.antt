@@ -17,6 +17,7 @@ pub use Rattle.mailmap_redundancy.specs.Redundancy
 pub use Rattle.mailmap_redundancy.specs.Origins
 pub use Rattle.mailmap_findings.specs.Git
 pub use Rattle.mailmap_findings.specs.Positions
+pub use Rattle.mailmap_findings.specs.Marks
 pub use Rattle.mailmap_findings.specs.Findings
 pub use Rattle.mailmap_findings.specs.GitAnswers
 pub use Rattle.mailmap_findings.specs.Explanations

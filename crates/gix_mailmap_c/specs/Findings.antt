@@ -3,7 +3,7 @@ use Rattle.std.specs.Prelude.{◌≡◌, ◌∷◌, ℕ, List, [], map}
 use Rattle.mailmap_entries.specs.Folding.{Text}
 use Rattle.mailmap_grammar.specs.Lines.{FaultKind, no_email, missing_closing_bracket, empty_email, nothing_to_map, unclosed_second}
 use Rattle.mailmap_findings.specs.Findings as library
-use Rattle.mailmap_findings.specs.Findings.{AreFindings, FindingKind, fault, ignored_text, git_reads, no_effect, itself_mapped}
+use Rattle.mailmap_findings.specs.Findings.{AreFindings, FindingKind, byte_order_mark, comment_in_line, fault, ignored_text, git_reads, no_effect, itself_mapped}
 use Rattle.gix_mailmap_c.specs.declared.texts.Finding.{Finding}
 
 abbrev pub fault_number : FaultKind → ℕ
@@ -20,6 +20,8 @@ kind_number (ignored_text text) = 6
 kind_number (no_effect beside is_same) = 7
 kind_number (itself_mapped contact to line second) = 8
 kind_number (git_reads reading) = 9
+kind_number byte_order_mark = 10
+kind_number comment_in_line = 11
 
 -- for a line without effect, the last line with an effect for the same key; 0 for all other kinds
 abbrev pub beside_line : FindingKind → ℕ

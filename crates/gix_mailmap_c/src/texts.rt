@@ -109,6 +109,8 @@ fn number_of(kind: &FindingKind<'_>) -> u32
         FindingKind::NoEffect { .. } => 7,
         FindingKind::ItselfMapped { .. } => 8,
         FindingKind::GitReads(_) => 9,
+        FindingKind::ByteOrderMark => 10,
+        FindingKind::CommentInLine => 11,
     }
 }
 

@@ -1,5 +1,5 @@
 -- Which lines are reported as without effect, what pruning leaves of a buffer, and the findings and git's answers then.
-use Rattle.std.proofs.Common.{◌≡◌, ◌≢◌, ◌+◌, ℕ, Bool, true, false, if◌then◌else◌, Less, Option, Some, None, IfSome, List, [], ◌∷◌, map, option_map, ⊎_elim, inl, inr, arith, ap, refl, subst, sym, ◌∙◌, is_none, ◌++◌, filter, append-nil, option_to_list, is_some, unwrap_or, rules}
+use Rattle.std.proofs.Common.{◌≡◌, ◌≢◌, ◌+◌, ◌==◌, ℕ, Bool, true, false, if◌then◌else◌, Less, Option, Some, None, IfSome, List, [], ◌∷◌, map, option_map, ⊎_elim, inl, inr, arith, ap, refl, subst, sym, ◌∙◌, is_none, ◌++◌, filter, append-nil, option_to_list, is_some, unwrap_or, rules}
 use Rattle.std.specs.Prelude.{◌⊎◌, ◌||◌, ◌↔◌, ◌&&◌, Contains, not}
 use Rattle.std.specs.Cmp.{tied_itself}
 use Rattle.std.specs.List.{AllByRecursion, cons_option, flat_map, list_any}
@@ -14,21 +14,22 @@ use Rattle.mailmap_redundancy.proofs.Giving.{AreOf, all_filter, moved_entry, mov
 use Rattle.mailmap_redundancy.proofs.Positions.{positions_total}
 use Rattle.mailmap_findings.specs.Explanations.{in_order, origin_positions, position_of}
 use Rattle.mailmap_findings.specs.Positions.{Line, located, same_position, entry, has_entry_at, whole_lines, located_from, lines_from, located_lines, located_entry}
-use Rattle.mailmap_findings.specs.Pruning.{number_among, position_among, is_left, lines_left, renumbered, with_number}
-use Rattle.mailmap_findings.proofs.Lines.{Ascend, line_at, before_differs, after_differs, reported_at, lines_ascend, at_entries, all_located, later_filter, later_located, located_filter, same_itself, sublist_filter, same_is}
+use Rattle.mailmap_findings.specs.Marks.{after_mark, is_marked, unmarked, unmarked_fields}
+use Rattle.mailmap_findings.specs.Pruning.{MarksStay, number_among, position_among, is_left, lines_left, renumbered, with_number}
+use Rattle.mailmap_findings.proofs.Lines.{Ascend, five_mapped, line_at, before_differs, after_differs, reported_at, lines_ascend, at_entries, all_located, later_filter, later_located, located_filter, same_itself, sublist_filter, same_is}
 use Rattle.std.proofs.lemmas.Bool.{or_right, or_left}
 use Rattle.std.proofs.lemmas.List.{map-append}
 use Rattle.std.proofs.lemmas.List.Concat.{flat_map-append}
 use Rattle.std.proofs.lemmas.List.Folds.{flat_map-map, list_any-append}
 use Rattle.std.proofs.lemmas.Simd.{map-map}
 use Rattle.mailmap_entries.specs.Entries.{Mapping}
-use Rattle.mailmap_grammar.specs.Lines.{mappings_of, strict_reading}
+use Rattle.mailmap_grammar.specs.Lines.{Reading, mappings_of, strict_reading}
 use Rattle.mailmap_redundancy.proofs.Kept.{effective_again, effective_normal, effective_sublist, last_stays, one_effective, some_effective, listing_differs, effective_answer}
-use Rattle.mailmap_findings.specs.Findings.{IsPruned, is_line_kept, AreFindings, NewContact, Finding, FindingKind, proper_contact, findings, git_reads, has_no_effect, is_reported_redundant, mapped_contact, mapping_positions, read_otherwise, reported_of_contact, reported_of_entry, reported_of_line, reported_of_reading, replaced_contact, first_read_otherwise}
+use Rattle.mailmap_findings.specs.Findings.{IsPruned, is_line_kept, AreFindings, NewContact, Finding, FindingKind, byte_order_mark, proper_contact, findings, git_reads, has_no_effect, is_reported_redundant, mapped_contact, mapping_positions, read_otherwise, reported_mark, reported_of_contact, reported_of_effect, reported_of_entry, reported_of_line, reported_of_names, reported_of_proper, reported_of_reading, replaced_contact, first_read_otherwise}
 use Rattle.mailmap_findings.proofs.Read.{mappings_of-located_lines, entry_same, entries-renumbered, texts-located, located_accepted, reading_numbered}
 use Rattle.mailmap_findings.proofs.Concatenated.{joined, joined-whole_lines, are_whole, whole_lines-joined, texts, some_whole, AreWhole}
 use Rattle.std.proofs.lemmas.List.Elements.{All-contains_itself, recursion_from_All, filter-append, filter_map-append, filter_passes}
-use Rattle.mailmap_findings.specs.Git.{git_entries}
+use Rattle.mailmap_findings.specs.Git.{GitReading, git_entries, read_in_place}
 use Rattle.mailmap_entries.proofs.EqualListings.{entries_decide}
 use Rattle.mailmap_entries.proofs.Exists.{is_normal, normal}
 use Rattle.mailmap_entries.proofs.Normal.{alike_normal}
@@ -259,10 +260,25 @@ any_at position there [] = grind arith
 any_at position there (t ∷ ts) = grind (arith, (any_at position there ts))
 
 -- findings about the text of a line
-none_in_text : (l : Line) → list_any has_no_effect (option_to_list
-    (reported_of_reading l.text (strict_reading l.position.line l.text)) ++ option_to_list (option_map git_reads (read_otherwise l)))
-    ≡ false
-none_in_text l = grind (arith, list_any-append)
+none_of_mark : (l : Line) → list_any has_no_effect (option_to_list (reported_mark l)) ≡ false
+none_of_mark l = grind arith
+
+none_of_reading : (t : Text) (o : Option Reading) → list_any has_no_effect (option_to_list (reported_of_reading t o)) ≡ false
+none_of_reading t o = grind arith
+
+none_of_names : (o : Option Mapping) → list_any has_no_effect (option_to_list (option_and_then reported_of_names o)) ≡ false
+none_of_names o = grind arith
+
+none_of_git : (o : Option GitReading) → list_any has_no_effect (option_to_list (option_map git_reads o)) ≡ false
+none_of_git o = grind arith
+
+-- of five findings, only the last may say that there is no effect
+last_any : (a b c d e : Option FindingKind) → list_any has_no_effect (option_to_list a) ≡ false
+    → list_any has_no_effect (option_to_list b) ≡ false → list_any has_no_effect (option_to_list c) ≡ false
+    → list_any has_no_effect (option_to_list d) ≡ false
+    → list_any has_no_effect (option_to_list a ++ option_to_list b ++ option_to_list c ++ option_to_list d ++ option_to_list e)
+    ≡ list_any has_no_effect (option_to_list e)
+last_any a b c d e of_a of_b of_c of_d = grind (arith, list_any-append)
 
 contact_none : (c to : NewContact) (by : List Position)
     → list_any has_no_effect (option_to_list (reported_of_contact c to by)) ≡ false
@@ -276,12 +292,31 @@ abbrev pub IfEffective : List LocatedMapping → Option Mapping → Type 0
 IfEffective kept o = IfSome o (HasEffective kept)
 
 module _ (h : List Mapping) (kept : List LocatedMapping) where
-  entry_any : (is_kept : Bool) (e : Mapping) → IfEffective kept (Some e)
-      → list_any has_no_effect (option_to_list (reported_of_entry h kept is_kept e)) ≡ not is_kept
-  entry_any is_kept e beside = grind (arith, contact_none)
+  proper_none : (bare : Bool) (o : Option Mapping)
+      → list_any has_no_effect (option_to_list (option_and_then (reported_of_proper h kept bare) o)) ≡ false
+  proper_none bare None = refl
+  proper_none bare (Some e) = contact_none (proper_contact e) (mapped_contact h bare (proper_contact e))
+      (mapping_positions h kept (proper_contact e))
+
+  entry_any : (is_kept bare : Bool) (taken : Option Mapping) (e : Mapping) → IfEffective kept (Some e)
+      → list_any has_no_effect (option_to_list (reported_of_entry h kept is_kept bare taken e)) ≡ not is_kept
+  entry_any true bare taken e beside = proper_none bare taken
+  entry_any false bare taken e beside = grind arith
+
+  effect_any : (is_kept bare : Bool) (taken o : Option Mapping) → IfEffective kept o
+      → list_any has_no_effect (option_to_list (option_and_then (reported_of_entry h kept is_kept bare taken) o))
+      ≡ not (is_none o || is_kept)
+  effect_any is_kept bare taken None beside = refl
+  effect_any is_kept bare taken (Some e) beside = entry_any is_kept bare taken e beside
 
   line_any : (l : Line) → IfEffective kept (entry l) → list_any has_no_effect (reported_of_line h kept l) ≡ not (is_line_kept kept l)
-  line_any l beside = grind (arith, list_any-append, none_in_text, entry_any)
+  line_any l beside = last_any (reported_mark l)
+      (reported_of_reading (unmarked l).text (strict_reading l.position.line (unmarked l).text))
+      (option_and_then reported_of_names (entry (unmarked l))) (option_map git_reads (read_otherwise (unmarked l)))
+      (reported_of_effect h kept l) (none_of_mark l)
+      (none_of_reading (unmarked l).text (strict_reading l.position.line (unmarked l).text))
+      (none_of_names (entry (unmarked l))) (none_of_git (read_otherwise (unmarked l)))
+      ∙ effect_any (has_entry_at kept l.position) (is_marked l) (entry (unmarked l)) (entry l) beside
 
   -- the lines that are reported at this position
   pub any_found : (position : Position) (ls : List Line) → AllByRecursion (λ l. IfEffective kept (entry l)) ls
@@ -379,18 +414,56 @@ contact_numbered : (move : Position → Position) (n : ℕ) (c to : NewContact) 
     → reported_of_contact c to (map move ps) ≡ option_map (with_number move n) (reported_of_contact c to ps)
 contact_numbered move n c to ps = grind (arith, first-map)
 
-three_parts : (w : FindingKind → FindingKind) (a b c : Option FindingKind)
-    → option_to_list (option_map w a) ++ option_to_list (option_map w b) ++ option_to_list (option_map w c)
-    ≡ map w (option_to_list a ++ option_to_list b ++ option_to_list c)
-three_parts w a b c = grind (arith, map-append)
+mark_numbered : (move : Position → Position) (n : ℕ) (b : Bool)
+    → (if b then Some byte_order_mark else None) ≡ option_map (with_number move n) (if b then Some byte_order_mark else None)
+mark_numbered move n true = refl
+mark_numbered move n false = refl
+
+names_numbered : (move : Position → Position) (n : ℕ) (o : Option Mapping)
+    → option_and_then reported_of_names o ≡ option_map (with_number move n) (option_and_then reported_of_names o)
+names_numbered move n o = grind arith
+
+git_numbered : (move : Position → Position) (n : ℕ) (o : Option GitReading)
+    → option_map git_reads o ≡ option_map (with_number move n) (option_map git_reads o)
+git_numbered move n None = refl
+git_numbered move n (Some reading) = refl
+
+-- a line that is marked before and after it moves, or neither, is the same without the mark
+same_after_mark : (a b : Bool) (o : Option Text)
+    → is_some (if a then o else None) ≡ is_some (if b then o else None) → (if a then o else None) ≡ (if b then o else None)
+same_after_mark a b None is = grind arith
+same_after_mark true true (Some t) is = refl
+same_after_mark false false (Some t) is = refl
+same_after_mark true false (Some t) is = absurd (cc)
+same_after_mark false true (Some t) is = absurd (cc)
+
+unmarked_moved : (move : Position → Position) (l : Line) → is_marked (moved_line move l) ≡ is_marked l
+    → unmarked (moved_line move l) ≡ moved_line move (unmarked l)
+unmarked_moved move l is = ap (λ o. moved_line move (record { position = l.position; text = unwrap_or o l.text }))
+    (same_after_mark ((move l.position).line == 1) (l.position.line == 1) (after_mark l.text) is)
 
 line_numbered : (move : Position → Position) (n : ℕ) (l : Line) (g h : List Mapping) (there kept : List LocatedMapping)
-    → entry (moved_line move l) ≡ entry l → reported_of_reading l.text (strict_reading (move l.position).line l.text)
-    ≡ option_map (with_number move n) (reported_of_reading l.text (strict_reading l.position.line l.text))
-    → option_and_then (reported_of_entry g there (has_entry_at there (move l.position))) (entry l)
-    ≡ option_map (with_number move n) (option_and_then (reported_of_entry h kept (has_entry_at kept l.position)) (entry l))
+    → is_marked (moved_line move l) ≡ is_marked l
+    → reported_of_reading (unmarked l).text (strict_reading (move l.position).line (unmarked l).text)
+    ≡ option_map (with_number move n) (reported_of_reading (unmarked l).text (strict_reading l.position.line (unmarked l).text))
+    → option_and_then (reported_of_entry g there (has_entry_at there (move l.position)) (is_marked l) (entry (unmarked l))) (entry l)
+    ≡ option_map (with_number move n)
+    (option_and_then (reported_of_entry h kept (has_entry_at kept l.position) (is_marked l) (entry (unmarked l))) (entry l))
     → reported_of_line g there (moved_line move l) ≡ map (with_number move n) (reported_of_line h kept l)
-line_numbered move n l g h there kept same reads ends = grind (arith, three_parts)
+line_numbered move n l g h there kept marked reads ends =
+    let m = unmarked l in
+    let w = with_number move n in
+    let text : (unmarked (moved_line move l)).text ≡ m.text = ap (λ k. k.text) (unmarked_moved move l marked) in
+    let same : entry (unmarked (moved_line move l)) ≡ entry m = entry_same (unmarked (moved_line move l)) m text in
+    let own : entry (moved_line move l) ≡ entry l = entry_same (moved_line move l) l refl in
+    five_mapped w (reported_mark l) (reported_of_reading m.text (strict_reading l.position.line m.text))
+    (option_and_then reported_of_names (entry m)) (option_map git_reads (read_otherwise m)) (reported_of_effect h kept l)
+    _ _ _ _ _
+    (ap (λ b. if b then Some byte_order_mark else None) marked ∙ mark_numbered move n (is_marked l))
+    (ap (λ t. reported_of_reading t (strict_reading (move l.position).line t)) text ∙ reads)
+    (ap (option_and_then reported_of_names) same ∙ names_numbered move n (entry m))
+    ((λ i. option_map git_reads (read_in_place (same i) (text i))) ∙ git_numbered move n (read_otherwise m))
+    ((λ i. option_and_then (reported_of_entry g there (has_entry_at there (move l.position)) (marked i) (same i)) (own i)) ∙ ends)
 
 numbered_at : (all : List Line) (position : Position) (ts : List FindingKind)
     → reported_at (position_among all position) (map (with_number (position_among all) (number_among all position)) ts)
@@ -405,7 +478,7 @@ moved_there move (x ∷ kept) p is = grind (arith, or_left, same_is, same_itself
 
 -- two lists of entries that map each contact alike, by lines that moved to where they are among these
 module _ (all : List Line) (g h : List Mapping) (kept : List LocatedMapping)
-    (same : (c : NewContact) → mapped_contact g c ≡ mapped_contact h c)
+    (same : (bare : Bool) (c : NewContact) → mapped_contact g bare c ≡ mapped_contact h bare c)
     (moved : (c : NewContact) → mapping_positions g (map (moved_entry (position_among all)) kept) c
     ≡ map (position_among all) (mapping_positions h kept c)) where
   abbrev move : Position → Position
@@ -414,28 +487,34 @@ module _ (all : List Line) (g h : List Mapping) (kept : List LocatedMapping)
   abbrev there : List LocatedMapping
   there = map (moved_entry move) kept
 
-  entry_numbered : (n : ℕ) (o : Option Mapping) (a b : Bool) → (b ≡ true → a ≡ true) → (is_none o || b) ≡ true
-      → option_and_then (reported_of_entry g there a) o
-      ≡ option_map (with_number move n) (option_and_then (reported_of_entry h kept b) o)
-  entry_numbered n None a b also is = refl
-  entry_numbered n (Some e) a b also is =
+  proper_numbered : (n : ℕ) (bare : Bool) (o : Option Mapping) → option_and_then (reported_of_proper g there bare) o
+      ≡ option_map (with_number move n) (option_and_then (reported_of_proper h kept bare) o)
+  proper_numbered n bare None = refl
+  proper_numbered n bare (Some e) =
       let c = proper_contact e in
-      rw (also is, is, same c, moved c) (contact_numbered move n c (mapped_contact h c) (mapping_positions h kept c))
+      rw (same bare c, moved c) (contact_numbered move n c (mapped_contact h bare c) (mapping_positions h kept c))
 
-  found_moved : (l : Line) → is_line_kept kept l ≡ true
+  entry_numbered : (n : ℕ) (o taken : Option Mapping) (a b bare : Bool) → (b ≡ true → a ≡ true) → (is_none o || b) ≡ true
+      → option_and_then (reported_of_entry g there a bare taken) o
+      ≡ option_map (with_number move n) (option_and_then (reported_of_entry h kept b bare taken) o)
+  entry_numbered n None taken a b bare also is = refl
+  entry_numbered n (Some e) taken a b bare also is = rw (also is, is) (proper_numbered n bare taken)
+
+  found_moved : (l : Line) → is_line_kept kept l ≡ true → is_marked (moved_line move l) ≡ is_marked l
       → findings g there (moved_line move l) ≡ map (renumbered all) (findings h kept l)
-  found_moved l is =
+  found_moved l is marked =
       let n = number_among all l.position in
-      ap (reported_at (move l.position)) (line_numbered move n l g h there kept (entry_same (moved_line move l) l refl)
-      (reading_numbered n l.position.line move l.text)
-      (entry_numbered n (entry l) (has_entry_at there (move l.position)) (has_entry_at kept l.position)
-      (moved_there move kept l.position) is))
+      ap (reported_at (move l.position)) (line_numbered move n l g h there kept marked
+      (reading_numbered n l.position.line move (unmarked l).text)
+      (entry_numbered n (entry l) (entry (unmarked l)) (has_entry_at there (move l.position)) (has_entry_at kept l.position)
+      (is_marked l) (moved_there move kept l.position) is))
       ∙ numbered_at all l.position (reported_of_line h kept l)
 
   all_moved : (ls : List Line) → AllByRecursion (λ l. is_line_kept kept l ≡ true) ls
+      → AllByRecursion (λ l. is_marked (moved_line move l) ≡ is_marked l) ls
       → flat_map (findings g there) (map (moved_line move) ls) ≡ map (renumbered all) (flat_map (findings h kept) ls)
-  all_moved [] a = refl
-  all_moved (l ∷ ls) a = grind (arith, found_moved, map-append, (all_moved ls a.1))
+  all_moved [] a marks = refl
+  all_moved (l ∷ ls) a marks = grind (arith, found_moved, map-append, (all_moved ls a.1 marks.1))
 
 -- ---- the findings of the buffer's kept lines
 
@@ -468,8 +547,9 @@ module _ (buffer text : Text) (pruned : IsPruned buffer text) where
   own_answer name email = ap (λ es. answer_of es name email) (mappings_of-one text ∙ text_mappings buffer text pruned)
       ∙ effective_answer (located (located_lines (buffer ∷ []))) pruned.kept name email pruned.effective
 
-  same_mapped : (c : NewContact) → mapped_contact (entries own) c ≡ mapped_contact whole_history c
-  same_mapped c = ap (λ o. replaced_contact (unwrap_or o no_fields) c) (own_answer (unwrap_or c.name []) c.email)
+  same_mapped : (bare : Bool) (c : NewContact) → mapped_contact (entries own) bare c ≡ mapped_contact whole_history bare c
+  same_mapped bare c = ap (λ o. replaced_contact (unmarked_fields bare (unwrap_or o no_fields)) c)
+      (own_answer (unwrap_or c.name []) c.email)
 
   same_moved : (c : NewContact)
       → mapping_positions (entries own) (map (moved_entry (position_among left_ones)) pruned.kept) c
@@ -482,9 +562,9 @@ module _ (buffer text : Text) (pruned : IsPruned buffer text) where
       (subst Ascend (text_moved buffer text pruned) (lines_ascend 0 (text ∷ [])))
       pruned.kept (subst (AllByRecursion (λ x. IsAmong left_ones x.position)) (kept_entries buffer text pruned) (all_among left_ones)) name c.email (fields_for whole_history name c.email)
 
-  text_findings : (left : List Finding) → AreFindings (text ∷ []) left
+  text_findings : (left : List Finding) → AreFindings (text ∷ []) left → MarksStay left_ones
       → left ≡ map (renumbered left_ones) (flat_map (findings whole_history pruned.kept) left_ones)
-  text_findings left are =
+  text_findings left are marks =
       let there = map (moved_entry (position_among left_ones)) pruned.kept in
       one_findings (text ∷ []) left (flat_map (findings (entries own) there) (located_lines (text ∷ []))) are (record {
         kept = there;
@@ -492,7 +572,7 @@ module _ (buffer text : Text) (pruned : IsPruned buffer text) where
         whole = refl;
       }) ∙ ap (flat_map (findings (entries own) there)) (text_moved buffer text pruned)
       ∙ all_moved left_ones (entries own) whole_history pruned.kept same_mapped same_moved left_ones
-      (recursion_from_All _ left_ones (filter_passes (is_line_kept pruned.kept) (located_lines (buffer ∷ []))))
+      (recursion_from_All _ left_ones (filter_passes (is_line_kept pruned.kept) (located_lines (buffer ∷ [])))) marks
 
   buffer_findings : (found : List Finding) (are : AreFindings (buffer ∷ []) found) → filter (is_left found) found
       ≡ flat_map (findings whole_history are.kept) (filter (is_line_kept are.kept) (located_lines (buffer ∷ [])))
@@ -500,12 +580,15 @@ module _ (buffer text : Text) (pruned : IsPruned buffer text) where
       ap (filter (is_left found)) are.whole ∙ left_found found whole_history are.kept (located_lines (buffer ∷ []))
       (reported_lines (buffer ∷ []) found are)
 
-pub others_stay : (buffer text : Text) (found left : List Finding) → AreFindings (buffer ∷ []) found → IsPruned buffer text → AreFindings (text ∷ []) left
+pub others_stay : (buffer text : Text) (found left : List Finding) → AreFindings (buffer ∷ []) found → IsPruned buffer text
+    → AreFindings (text ∷ []) left → MarksStay (lines_left buffer found)
     → left ≡ map (renumbered (lines_left buffer found)) (filter (is_left found) found)
-others_stay buffer text found left are pruned left_are =
+others_stay buffer text found left are pruned left_are marks =
     let xs = located (located_lines (buffer ∷ [])) in
     let same = one_effective xs pruned.kept are.kept pruned.effective are.effective in
-    text_findings buffer text pruned left left_are
+    let lines : lines_left buffer found ≡ kept_lines buffer text pruned = left_lines (buffer ∷ []) found are
+    ∙ ap (λ kept. filter (is_line_kept kept) (located_lines (buffer ∷ []))) (sym same) in
+    text_findings buffer text pruned left left_are (subst MarksStay lines marks)
     ∙ ap (λ kept. map (renumbered (filter (is_line_kept kept) (located_lines (buffer ∷ []))))
     (flat_map (findings (whole_history buffer text pruned) kept)
     (filter (is_line_kept kept) (located_lines (buffer ∷ []))))) same

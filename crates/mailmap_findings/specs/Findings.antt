@@ -5,10 +5,11 @@ use Rattle.std.specs.Option.{option_and_then, option_copied, option_map, option_
 use lib.Pointwise.{pointwise}
 use Rattle.mailmap_entries.specs.Entries.{Mapping}
 use Rattle.mailmap_entries.specs.Folding.{Text}
-use Rattle.mailmap_grammar.specs.Lines.{Fault, fault_of, Reading, trailing_text, cut, non_empty, strict_reading}
+use Rattle.mailmap_grammar.specs.Lines.{Fault, fault_of, Reading, trailing_text, cut, is_comment, non_empty, strict_reading}
 use Rattle.mailmap_grammar.specs.Trimming.{trim}
 use Rattle.mailmap_findings.specs.Explanations.{origin_positions}
 use Rattle.mailmap_findings.specs.Git.{GitReading, git_reading_of, read_in_place}
+use Rattle.mailmap_findings.specs.Marks.{is_marked, unmarked, unmarked_fields}
 use Rattle.mailmap_entries.specs.Semantics.{Fields, fields_for, first, key}
 use Rattle.mailmap_entries.specs.Listings.{same_optional}
 use Rattle.mailmap_redundancy.specs.Origins.{origins}
@@ -26,8 +27,10 @@ pub record NewContact : Type 0 where
 
 -- the kinds of findings
 pub data FindingKind : Type 0 where
+  byte_order_mark : FindingKind
   fault : Fault → FindingKind
   ignored_text : Text → FindingKind
+  comment_in_line : FindingKind
   git_reads : GitReading → FindingKind
   no_effect : Position → Bool → FindingKind
   itself_mapped : NewContact → NewContact → Position → Option Position → FindingKind
@@ -41,8 +44,10 @@ abbrev pub contact_of : the_contact.Contact → NewContact
 contact_of c = record { name = option_copied c.name; email = c.email.now }
 
 abbrev pub kind_of : the_kind.FindingKind → FindingKind
+kind_of variant.ByteOrderMark = byte_order_mark
 kind_of (variant.Fault e) = fault (fault_of e)
 kind_of (variant.IgnoredText text) = ignored_text text.now
+kind_of variant.CommentInLine = comment_in_line
 kind_of (variant.GitReads reading) = git_reads (git_reading_of reading)
 kind_of (variant.NoEffect beside is_same) = no_effect beside is_same
 kind_of (variant.ItselfMapped contact to line second) = itself_mapped (contact_of contact) (contact_of to) line second
@@ -61,6 +66,15 @@ abbrev pub reported_of_reading : Text → Option Reading → Option FindingKind
 reported_of_reading line None = None
 reported_of_reading line (Some (Err f)) = Some (fault f)
 reported_of_reading line (Some (Ok e)) = option_map ignored_text (non_empty (ignored line))
+
+-- the mailmap begins with a byte order mark, and this is its first line
+abbrev pub reported_mark : Line → Option FindingKind
+reported_mark l = if is_marked l then Some byte_order_mark else None
+
+-- a new name or an old one begins with `#`, which would begin a comment as the first byte of the line
+abbrev pub reported_of_names : Mapping → Option FindingKind
+reported_of_names e =
+    if is_comment (unwrap_or e.new_name []) || is_comment (unwrap_or e.old_name []) then Some comment_in_line else None
 
 -- what git reads from a line, if that differs from its entry
 abbrev pub read_otherwise : Line → Option GitReading
@@ -81,9 +95,9 @@ proper_contact e = record { name = option_or e.new_name e.old_name; email = unwr
 abbrev pub replaced_contact : Fields → NewContact → NewContact
 replaced_contact f c = record { name = option_map (unwrap_or f.name) c.name; email = unwrap_or f.email c.email }
 
--- what a contact maps to; one without a name is looked up by its email
-abbrev pub mapped_contact : List Mapping → NewContact → NewContact
-mapped_contact h c = replaced_contact (fields_for h (unwrap_or c.name []) c.email) c
+-- what a contact maps to, without byte order marks if the flag is set; one without a name is looked up by its email
+abbrev pub mapped_contact : List Mapping → Bool → NewContact → NewContact
+mapped_contact h bare c = replaced_contact (unmarked_fields bare (fields_for h (unwrap_or c.name []) c.email)) c
 
 abbrev pub is_same_contact : NewContact → NewContact → Bool
 is_same_contact a b = same_optional a.name b.name && pointwise nat_eq a.email b.email
@@ -99,8 +113,9 @@ reported_of_contact c to [] = None
 reported_of_contact c to (p ∷ ps) = if is_same_contact c to then None else Some (itself_mapped c to p (first ps))
 
 -- whether an entry's contact is itself mapped
-abbrev pub reported_of_proper : List Mapping → List LocatedMapping → NewContact → Option FindingKind
-reported_of_proper h kept c = reported_of_contact c (mapped_contact h c) (mapping_positions h kept c)
+abbrev pub reported_of_proper : List Mapping → List LocatedMapping → Bool → Mapping → Option FindingKind
+reported_of_proper h kept bare e = reported_of_contact (proper_contact e) (mapped_contact h bare (proper_contact e))
+    (mapping_positions h kept (proper_contact e))
 
 -- both have the same new name or none, and the same new email or none, byte for byte
 abbrev pub says_same : Mapping → Mapping → Bool
@@ -110,9 +125,15 @@ abbrev pub no_effect_beside : Mapping → LocatedMapping → FindingKind
 no_effect_beside e x = no_effect x.position (says_same e x.entry)
 
 -- For an effective entry, whether its contact is itself mapped; for another one, the last effective entry of its key.
-abbrev pub reported_of_entry : List Mapping → List LocatedMapping → Bool → Mapping → Option FindingKind
-reported_of_entry h kept true e = reported_of_proper h kept (proper_contact e)
-reported_of_entry h kept false e = option_map (no_effect_beside e) (last_of_key kept (key e))
+-- `taken` is the entry of the line without a byte order mark, which counts for what is said; `bare` says that there is
+-- a mark.
+abbrev pub reported_of_entry : List Mapping → List LocatedMapping → Bool → Bool → Option Mapping → Mapping → Option FindingKind
+reported_of_entry h kept true bare taken e = option_and_then (reported_of_proper h kept bare) taken
+reported_of_entry h kept false bare taken e = option_map (no_effect_beside (unwrap_or taken e)) (last_of_key kept (key e))
+
+abbrev pub reported_of_effect : List Mapping → List LocatedMapping → Line → Option FindingKind
+reported_of_effect h kept l = option_and_then
+    (reported_of_entry h kept (has_entry_at kept l.position) (is_marked l) (entry (unmarked l))) (entry l)
 
 -- ---- all findings of all lines
 
@@ -120,9 +141,11 @@ reported_of_entry h kept false e = option_map (no_effect_beside e) (last_of_key 
 -- position if its own is effective
 abbrev pub reported_of_line : List Mapping → List LocatedMapping → Line → List FindingKind
 reported_of_line h kept l =
-    option_to_list (reported_of_reading l.text (strict_reading l.position.line l.text)) ++
-    option_to_list (option_map git_reads (read_otherwise l)) ++
-    option_to_list (option_and_then (reported_of_entry h kept (has_entry_at kept l.position)) (entry l))
+    option_to_list (reported_mark l) ++
+    option_to_list (reported_of_reading (unmarked l).text (strict_reading l.position.line (unmarked l).text)) ++
+    option_to_list (option_and_then reported_of_names (entry (unmarked l))) ++
+    option_to_list (option_map git_reads (read_otherwise (unmarked l))) ++
+    option_to_list (reported_of_effect h kept l)
 
 abbrev pub findings : List Mapping → List LocatedMapping → Line → List Finding
 findings h kept l = map (λ t. record { position = l.position; kind = t }) (reported_of_line h kept l)
@@ -143,8 +166,10 @@ AreInOrder = AllLater (λ f g. IsUpTo f.position g.position)
 -- ---- pruned texts
 
 abbrev pub has_no_effect : FindingKind → Bool
+has_no_effect byte_order_mark = false
 has_no_effect (fault f) = false
 has_no_effect (ignored_text text) = false
+has_no_effect comment_in_line = false
 has_no_effect (git_reads reading) = false
 has_no_effect (no_effect beside is_same) = true
 has_no_effect (itself_mapped c to line second) = false

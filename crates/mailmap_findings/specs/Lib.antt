@@ -4,6 +4,7 @@ pub use Rattle.mailmap_grammar.specs.Lines
 pub use Rattle.mailmap_entries.specs.Semantics
 pub mod Git
 pub mod Positions
+pub mod Marks
 pub mod Findings
 pub mod GitAnswers
 pub mod Explanations

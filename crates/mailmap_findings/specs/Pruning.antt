@@ -1,10 +1,11 @@
 -- The findings of a pruned text, from those of its buffer.
-use Rattle.std.specs.Prelude.{◌+◌, ◌&&◌, ℕ, Bool, if◌then◌else◌, List, [], ◌∷◌, filter, not}
-use Rattle.std.specs.List.{list_any}
+use Rattle.std.specs.Prelude.{◌≡◌, ◌+◌, ◌&&◌, ℕ, Bool, if◌then◌else◌, List, [], ◌∷◌, filter, not}
+use Rattle.std.specs.List.{AllByRecursion, list_any}
 use Rattle.std.specs.Option.{option_map}
 use Rattle.mailmap_entries.specs.Folding.{Text}
 use Rattle.mailmap_redundancy.specs.declared.located.Position.{Position}
-use Rattle.mailmap_findings.specs.Findings.{Finding, FindingKind, fault, git_reads, has_no_effect, ignored_text, is_reported_redundant, itself_mapped, no_effect}
+use Rattle.mailmap_findings.specs.Findings.{Finding, FindingKind, byte_order_mark, comment_in_line, fault, git_reads, has_no_effect, ignored_text, is_reported_redundant, itself_mapped, no_effect}
+use Rattle.mailmap_findings.specs.Marks.{is_marked}
 use Rattle.mailmap_findings.specs.Positions.{Line, located_lines, same_position}
 
 -- the lines of a buffer that pruning keeps: those not reported as without effect
@@ -26,8 +27,10 @@ position_among ls position = record { buffer = 0; line = number_among ls positio
 
 -- a fault contains the number of its line, and some findings name other lines, which move
 abbrev pub with_number : (Position → Position) → ℕ → FindingKind → FindingKind
+with_number move n byte_order_mark = byte_order_mark
 with_number move n (fault f) = fault (record f { line = n })
 with_number move n (ignored_text text) = ignored_text text
+with_number move n comment_in_line = comment_in_line
 with_number move n (git_reads reading) = git_reads reading
 with_number move n (no_effect beside is_same) = no_effect (move beside) is_same
 with_number move n (itself_mapped contact to line second) =
@@ -39,3 +42,8 @@ renumbered ls f = record {
   position = position_among ls f.position;
   kind = with_number (position_among ls) (number_among ls f.position) f.kind;
 }
+
+-- No byte order mark gets to the beginning of a text that has only these lines: the first of them has one only if it
+-- began the buffer, too.
+abbrev pub MarksStay : List Line → Type 0
+MarksStay ls = AllByRecursion (λ l. is_marked (record l { position = position_among ls l.position }) ≡ is_marked l) ls

@@ -12,7 +12,7 @@ ghost use Rattle.mailmap_findings.specs.Findings.{AreFindings, AreInOrder, NewCo
 ghost use Rattle.mailmap_findings.specs.GitAnswers.{git_answer};
 ghost use Rattle.mailmap_findings.specs.IgnoredText.{ReadsWithoutIgnored};
 ghost use Rattle.mailmap_findings.specs.Positions.{Line, entry, located_lines, located, same_position, whole_lines, texts_left};
-ghost use Rattle.mailmap_findings.specs.Pruning.{is_left, lines_left, renumbered};
+ghost use Rattle.mailmap_findings.specs.Pruning.{MarksStay, is_left, lines_left, renumbered};
 ghost use Rattle.mailmap_findings.specs.Needs.{AreUnneeded, is_deletable};
 
 mod equal;
@@ -83,12 +83,12 @@ pub fn law_pruned_for_git()
 {}
 
 /// A pruned text has no line without effect. Its other findings are those of the lines that were kept, with their new
-/// line numbers.
+/// line numbers, unless a byte order mark inside the buffer gets to the beginning.
 pub fn law_pruned_findings()
     ensures none { (buffer text : Text) (left : List Finding) (l : Line) → IsPruned buffer text
         → AreFindings (text ∷ []) left → is_reported_redundant left l ≡ false }
     ensures others { (buffer text : Text) (found left : List Finding) → AreFindings (buffer ∷ []) found
-        → IsPruned buffer text → AreFindings (text ∷ []) left
+        → IsPruned buffer text → AreFindings (text ∷ []) left → MarksStay (lines_left buffer found)
         → left ≡ map (renumbered (lines_left buffer found)) (filter (is_left found) found) }
 {}
 

@@ -48,11 +48,17 @@ pub struct Finding<'a> {
 /// The kinds of findings, each with its details.
 #[derive(Debug, PartialEq, Eq, Drop)]
 pub enum FindingKind<'a> {
+    /// The buffer begins with a byte order mark, which becomes a part of the line's first name or makes a comment a
+    /// fault. All other findings of the line are those that it would have without the mark, but that its entry has no
+    /// effect if so it is.
+    ByteOrderMark,
     /// The line breaks a rule of strict parsing: it has no entry, or its second email isn't closed.
     Fault(Error<'a>),
     /// Text after the last email that counts, of a line that has an entry, trimmed and not empty. In `Joe <joe@x> joe`
     /// it is the last word.
     IgnoredText(&'a [u8]),
+    /// A new name or an old one begins with `#`, as in ` # Joe <joe@x>`. A comment begins with the first byte of a line.
+    CommentInLine,
     /// git reads the line in another way than this library, as shown here. For git, the email in `Joe < a@x >` has a
     /// space at each end, and a line with a zero byte before its email has no entry.
     GitReads(GitReading<'a>),
@@ -85,8 +91,9 @@ pub struct Contact<'a> {
 
 /// Reports what is wrong with the lines of the buffers, in the order of the buffers and their lines.
 ///
-/// A line can have up to three findings, in this order: a fault or ignored text; that git reads it in another way; that
-/// its entry has no effect, or that its contact is itself mapped. All lines without effect can be deleted at once.
+/// A line can have up to five findings, in this order: a byte order mark; a fault or ignored text; a name that begins
+/// with `#`; that git reads it in another way; that its entry has no effect, or that its contact is itself mapped. All
+/// lines without effect can be deleted at once.
 ///
 /// For the buffer `P <a@x>\nP <a@x> p`, this reports that line 1 has no effect beside line 2, and that line 2 has the
 /// ignored text `p`.
@@ -218,7 +225,9 @@ impl<'m, 'a> Verification<'m, 'a> {
             lines: BufferLines::of(self.buffers),
             effective: &self.effective,
             of_line: LineFindings {
+                of_mark: None,
                 of_text: None,
+                of_names: None,
                 of_git: None,
                 of_entry: None,
             },

@@ -1,2 +1,3 @@
+mod SeenAlike
 mod Objects
 pub mod Suggesting

@@ -3,7 +3,7 @@ use Rattle.std.specs.Prelude.{Bool, List, [], ◌∷◌, Option, codes}
 use Rattle.std.specs.List.{find, flat_map}
 use Rattle.std.specs.Str.{bytes_eq}
 use Rattle.mailmap_entries.specs.Folding.{Text}
-use Rattle.mailmap_findings.specs.Findings.{FindingKind, fault, ignored_text, git_reads, no_effect, itself_mapped}
+use Rattle.mailmap_findings.specs.Findings.{FindingKind, byte_order_mark, comment_in_line, fault, ignored_text, git_reads, no_effect, itself_mapped}
 use Rattle.mailmap_grammar.specs.Lines.{FaultKind, no_email, missing_closing_bracket, empty_email, nothing_to_map, unclosed_second}
 use Rattle.mailmap_suggestions.specs.ContactFindings.{ContactFinding, git_answers, is_like, no_contact, shared_email}
 use Rattle.mailmap_suggestions.specs.declared.findings.Likeness.{Likeness}
@@ -24,7 +24,9 @@ fault_kind unclosed_second = kind.UnclosedSecondEmail
 
 abbrev pub finding_kind : FindingKind → Kind
 finding_kind (fault f) = fault_kind f.kind
+finding_kind byte_order_mark = kind.ByteOrderMark
 finding_kind (ignored_text text) = kind.IgnoredText
+finding_kind comment_in_line = kind.CommentInLine
 finding_kind (git_reads reading) = kind.GitReads
 finding_kind (no_effect beside is_same) = kind.NoEffect
 finding_kind (itself_mapped c to line second) = kind.ItselfMapped
@@ -49,7 +51,9 @@ kind_name kind.UnclosedEmail = codes "unclosed-email"
 kind_name kind.EmptyEmail = codes "empty-email"
 kind_name kind.NothingToMap = codes "nothing-to-map"
 kind_name kind.UnclosedSecondEmail = codes "unclosed-second-email"
+kind_name kind.ByteOrderMark = codes "byte-order-mark"
 kind_name kind.IgnoredText = codes "ignored-text"
+kind_name kind.CommentInLine = codes "comment-in-line"
 kind_name kind.GitReads = codes "git-reads"
 kind_name kind.NoEffect = codes "no-effect"
 kind_name kind.ItselfMapped = codes "itself-mapped"
@@ -66,8 +70,8 @@ same_kind a b = bytes_eq (kind_name a) (kind_name b)
 
 abbrev pub kinds : List Kind
 kinds = kind.NoEmail ∷ kind.UnclosedEmail ∷ kind.EmptyEmail ∷ kind.NothingToMap ∷ kind.UnclosedSecondEmail
-    ∷ kind.IgnoredText ∷ kind.GitReads ∷ kind.NoEffect ∷ kind.ItselfMapped ∷ kind.Unneeded ∷ kind.NoContact
-    ∷ kind.SameEmail ∷ kind.SharedEmail ∷ kind.SameName ∷ kind.SimilarName ∷ kind.GitAnswers ∷ []
+    ∷ kind.ByteOrderMark ∷ kind.IgnoredText ∷ kind.CommentInLine ∷ kind.GitReads ∷ kind.NoEffect ∷ kind.ItselfMapped
+    ∷ kind.Unneeded ∷ kind.NoContact ∷ kind.SameEmail ∷ kind.SharedEmail ∷ kind.SameName ∷ kind.SimilarName ∷ kind.GitAnswers ∷ []
 
 -- their names, each after a space
 abbrev pub kind_names : List Kind → Text

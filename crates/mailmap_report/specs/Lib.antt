@@ -1,3 +1,4 @@
+pub mod Alike
 pub mod Explained
 pub mod Json
 pub mod Kinds

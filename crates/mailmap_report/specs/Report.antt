@@ -7,10 +7,11 @@ use Rattle.std.specs.Option.{option_map}
 use Rattle.mailmap_grammar.specs.Lines.{FaultKind, is_comment, no_email, missing_closing_bracket, empty_email, nothing_to_map, unclosed_second}
 use Rattle.mailmap_grammar.specs.CanonicalText.{bracketed_email, email_part, name_part}
 use Rattle.mailmap_entries.specs.Entries.{Mapping}
-use Rattle.mailmap_findings.specs.Findings.{NewContact, Finding, FindingKind, fault, ignored_text, git_reads, no_effect, itself_mapped}
+use Rattle.mailmap_findings.specs.Findings.{NewContact, Finding, FindingKind, byte_order_mark, comment_in_line, fault, ignored_text, git_reads, no_effect, itself_mapped}
 use Rattle.mailmap_findings.specs.Git.{GitReading, Nothing, Entry, Lines}
 use Rattle.mailmap_redundancy.specs.declared.located.Position.{Position}
 use Rattle.command_line.specs.Shown.{shown}
+use Rattle.mailmap_report.specs.Alike.{alike_text}
 use Rattle.mailmap_report.specs.Json.{FileLine, Notice, object_line}
 use Rattle.mailmap_report.specs.Kinds.{finding_kind, kind_level, kind_name, level_name, contact_kind}
 use Rattle.mailmap_report.specs.Settings.{Choices, counts, is_json, is_reported}
@@ -87,12 +88,16 @@ says_text false = codes " says something else"
 -- what a finding says
 abbrev pub message_text : List Text → FindingKind → Text
 message_text paths (fault f) = fault_text f.kind
+message_text paths byte_order_mark = codes "byte order mark: delete it"
 message_text paths (ignored_text text) = codes "ignored text: " ++ shortened text ++ cure_text text
+message_text paths comment_in_line =
+    codes "the name begins with #, which begins a comment only as the first byte of a line"
 message_text paths (git_reads reading) = codes "git reads " ++ git_text reading
 message_text paths (no_effect beside is_same) =
     codes "no effect: " ++ position_text paths beside.buffer beside.line ++ says_text is_same
 message_text paths (itself_mapped c to line second) = contact_text c ++ codes " is itself mapped, to "
     ++ contact_text to ++ codes " by " ++ positions_text paths (line ∷ option_to_list second)
+    ++ alike_text (unwrap_or c.name []) (unwrap_or to.name [])
 
 -- the other line that it refers to, the first one if there are two
 abbrev pub referred_line : List Text → FindingKind → Option FileLine
@@ -172,6 +177,7 @@ abbrev pub contact_words : ContactFinding → Text
 contact_words (no_contact line) = codes "no contact"
 contact_words (shared_email email seen) = shortened email ++ codes " is the email of several people" ++ count_text seen.count
 contact_words (is_like likeness a p) = counted_contact a ++ likeness_text likeness ++ counted_contact p
+    ++ alike_text a.contact.name p.contact.name
 contact_words (git_answers a) = codes "git answers " ++ short_contact a.contact.name a.contact.email
 
 -- the first line with the answer that another is compared with

@@ -2,6 +2,7 @@
 //! lines are behind the answer to a contact. Programs print them, and the library for C hands them out.
 #![tactic(auto)]
 
+mod alike;
 pub mod explanation;
 mod json;
 pub mod kinds;

@@ -1,5 +1,5 @@
 //! What findings in mailmaps say.
-ghost use Rattle.std.specs.Prelude.{◌≡◌, ◌++◌, OnOk};
+ghost use Rattle.std.specs.Prelude.{◌≡◌, ◌++◌, [], OnOk, unwrap_or};
 ghost use Rattle.std.specs.List.{list_any};
 ghost use Rattle.std.specs.Option.{option_copied, option_map};
 ghost use Rattle.command_line.specs.Files.{texts};
@@ -8,9 +8,11 @@ ghost use Rattle.mailmap_findings.specs.Findings.{contact_of, kind_of};
 ghost use Rattle.mailmap_findings.specs.Git.{git_reading_of};
 ghost use Rattle.mailmap_grammar.specs.CanonicalText.{bracketed_email, name_part};
 ghost use Rattle.mailmap_grammar.specs.Lines.{fault_of};
+ghost use Rattle.mailmap_report.specs.Alike.{alike_text};
 ghost use Rattle.mailmap_report.specs.Report.{contact_text, cure_text, entry_text, fault_text, git_text, is_email_byte};
 ghost use Rattle.mailmap_report.specs.Report.{message_text, says_text, shortened};
 
+use crate::alike::push_alike;
 use crate::places::{push_position, push_positions};
 use itoa::Buffer;
 use mailmap_entries::Entry;
@@ -36,6 +38,10 @@ pub(crate) fn push_message(
             push_shortened(text, ignored)?;
             push_cure(text, ignored)
         }
+        FindingKind::ByteOrderMark => text.extend_from_slice(b"byte order mark: delete it"),
+        FindingKind::CommentInLine => text.extend_from_slice(
+            b"the name begins with #, which begins a comment only as the first byte of a line",
+        ),
         FindingKind::GitReads(reading) => {
             text.extend_from_slice(b"git reads ")?;
             push_reading(text, reading)
@@ -55,7 +61,8 @@ pub(crate) fn push_message(
             text.extend_from_slice(b" is itself mapped, to ")?;
             push_some_contact(text, *to)?;
             text.extend_from_slice(b" by ")?;
-            push_positions(text, paths, *first, *second)
+            push_positions(text, paths, *first, *second)?;
+            push_alike_names(text, *contact, *to)
         }
     }
 }
@@ -93,6 +100,18 @@ fn push_some_contact(text: &mut Vec<u8>, contact: Contact<'_>) -> Result<(), All
     ensures { OnOk result (text.new.items ≡ text.old.items ++ contact_text (contact_of contact.entry)) }
 {
     push_short_contact(text, contact.name.unwrap_or(&[]), contact.email)
+}
+
+// Says that two contacts look the same, if their names do and differ.
+fn push_alike_names(
+    text: &mut Vec<u8>,
+    contact: Contact<'_>,
+    to: Contact<'_>,
+) -> Result<(), AllocError>
+    ensures { OnOk result (text.new.items ≡ text.old.items
+        ++ alike_text (unwrap_or (contact_of contact.entry).name []) (unwrap_or (contact_of to.entry).name [])) }
+{
+    push_alike(text, contact.name.unwrap_or(&[]), to.name.unwrap_or(&[]))
 }
 
 fn fault_name(fault: &Error<'_>) -> &'static str

@@ -11,6 +11,7 @@ ghost use Rattle.mailmap_report.specs.Json.{file_line_of, notice_of};
 ghost use Rattle.mailmap_suggestions.specs.ContactFindings.{first_line_of};
 ghost use Rattle.mailmap_suggestions.specs.FindingViews.{finding_view};
 
+use crate::alike::push_alike;
 use crate::kinds::Kind;
 use crate::message::push_message;
 use crate::places::{Place, place_at};
@@ -108,7 +109,11 @@ fn referred_line<'a>(names: &'a [Vec<u8>], kind: &FindingKind<'_>) -> Option<Pla
     match kind {
         FindingKind::NoEffect { beside, .. } => Some(place_at(names, *beside)),
         FindingKind::ItselfMapped { first, .. } => Some(place_at(names, *first)),
-        FindingKind::Fault(_) | FindingKind::IgnoredText(_) | FindingKind::GitReads(_) => None,
+        FindingKind::ByteOrderMark
+        | FindingKind::Fault(_)
+        | FindingKind::IgnoredText(_)
+        | FindingKind::CommentInLine
+        | FindingKind::GitReads(_) => None,
     }
 }
 
@@ -142,7 +147,8 @@ fn push_contact_words(text: &mut Vec<u8>, finding: &ContactFinding<'_>) -> Resul
         ContactFinding::IsLike(likeness, answer, best) => {
             push_counted(text, answer)?;
             text.extend_from_slice(likeness_text(*likeness))?;
-            push_counted(text, best)
+            push_counted(text, best)?;
+            push_alike(text, answer.name, best.name)
         }
         ContactFinding::GitAnswers(answer) => {
             text.extend_from_slice(b"git answers ")?;

@@ -21,8 +21,9 @@ Options:
       --version            prints the version
 Without a FILE, the mailmap is .mailmap in the current folder; --contacts and --suggest do without one if it isn't
 there, and --explain always does. A single - is standard input, but for --explain and --suggest, and if CONTACTS is -.
-Kinds: no-email, unclosed-email, empty-email, nothing-to-map, unclosed-second-email, ignored-text, git-reads, no-effect,
-itself-mapped, unneeded, no-contact, same-email, shared-email, same-name, similar-name, git-answers.
+Kinds: no-email, unclosed-email, empty-email, nothing-to-map, unclosed-second-email, byte-order-mark, ignored-text,
+comment-in-line, git-reads, no-effect, itself-mapped, unneeded, no-contact, same-email, shared-email, same-name,
+similar-name, git-answers.
 Status 0: nothing or only notes were found. 1: an error or a warning was found, or with -S anything was reported.
 2: a failure.
 ";

@@ -35,6 +35,10 @@ pub enum Kind {
     ItselfMapped,
     /// git reads the line differently.
     GitReads,
+    /// The mailmap begins with U+FEFF, which is a part of its first line.
+    ByteOrderMark,
+    /// A name begins with `#`, which begins a comment only as the first byte of a line.
+    CommentInLine,
     /// A kind of a later version of the library, by its number.
     Other(u32),
 }
@@ -64,6 +68,8 @@ fn kind(found: &sys::Found) -> Kind {
         sys::NO_EFFECT => Kind::NoEffect { beside: found.beside },
         sys::ITSELF_MAPPED => Kind::ItselfMapped,
         sys::GIT_READS => Kind::GitReads,
+        sys::BYTE_ORDER_MARK => Kind::ByteOrderMark,
+        sys::COMMENT_IN_LINE => Kind::CommentInLine,
         other => Kind::Other(other),
     }
 }

@@ -29,6 +29,8 @@ pub(crate) const IGNORED_TEXT: u32 = 6;
 pub(crate) const NO_EFFECT: u32 = 7;
 pub(crate) const ITSELF_MAPPED: u32 = 8;
 pub(crate) const GIT_READS: u32 = 9;
+pub(crate) const BYTE_ORDER_MARK: u32 = 10;
+pub(crate) const COMMENT_IN_LINE: u32 = 11;
 
 /// `gix_mailmap_field`
 #[repr(C)]

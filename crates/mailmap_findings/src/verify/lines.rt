@@ -1,6 +1,8 @@
 //! The lines of buffers, with their positions.
 ghost use Rattle.std.specs.Prelude.{◌≡◌, ◌≢◌, ◌<◌, ◌^◌, [], false, length, map, true};
 ghost use Rattle.std.specs.Iterator.{YieldsFirstBy, item_count};
+ghost use Rattle.std.specs.Option.{option_copied};
+ghost use Rattle.mailmap_findings.specs.Marks.{after_mark, text_after_mark};
 ghost use Rattle.mailmap_findings.specs.Positions.{line_of, located_lines, whole_lines};
 
 use bstr::{ByteSlice, LinesWithTerminator};
@@ -12,6 +14,27 @@ use std::marker::Model;
 pub(crate) struct Line<'a> {
     pub(crate) position: Position,
     pub(crate) text: &'a [u8],
+}
+
+/// The text of a line after the byte order mark that its buffer begins with, `None` if it isn't the first line or there
+/// is none.
+pub(crate) fn text_after_mark<'a>(line: &Line<'a>) -> Option<&'a [u8]>
+    ensures { option_copied result ≡ text_after_mark (line_of line.now) }
+{
+    if line.position.line != 1 {
+        return None;
+    }
+    after_mark(line.text)
+}
+
+/// The text after U+FEFF in UTF-8, `None` if it doesn't begin with that.
+pub(crate) fn after_mark(text: &[u8]) -> Option<&[u8]>
+    ensures { option_copied result ≡ after_mark text.now }
+{
+    match text {
+        [a, b, c, rest @ ..] if (*a == 0xEF) & (*b == 0xBB) & (*c == 0xBF) => Some(rest),
+        _ => None,
+    }
 }
 
 /// Iterates over the lines of all buffers in order.

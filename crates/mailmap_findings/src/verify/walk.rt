@@ -1,18 +1,22 @@
 //! Parses lines, computes each line's findings, and copies the lines that pruning keeps.
-ghost use Rattle.std.specs.Prelude.{◌≡◌, ◌∷◌, [], map, filter, IfOk};
+ghost use Rattle.std.specs.Prelude.{◌≡◌, ◌∷◌, [], map, filter, unwrap_or, IfOk};
 ghost use Rattle.std.specs.Iterator.{YieldsFirstBy, item_count};
 ghost use Rattle.std.specs.List.{flat_map};
 ghost use Rattle.std.specs.List.Sorted.{IsStrictlySortedBy};
-ghost use Rattle.std.specs.Option.{option_map};
+ghost use Rattle.std.specs.Option.{option_and_then, option_copied, option_map};
 ghost use Rattle.mailmap_entries.specs.Entries.{mapping_of};
-ghost use Rattle.mailmap_grammar.specs.Lines.{strict_reading};
+ghost use Rattle.mailmap_grammar.specs.Lines.{is_comment, strict_reading};
 ghost use Rattle.mailmap_redundancy.specs.Redundancy.{entries, position_cmp};
-ghost use Rattle.mailmap_findings.specs.Findings.{finding_of, findings, first_read_otherwise as spec_first, is_line_kept, kind_of, reported_of_reading as spec_reported};
+ghost use Rattle.mailmap_findings.specs.Findings.{finding_of, findings, git_reads, first_read_otherwise as spec_first, is_line_kept, kind_of};
+ghost use Rattle.mailmap_findings.specs.Findings.{reported_mark, reported_of_effect as spec_effect, reported_of_names as spec_names};
+ghost use Rattle.mailmap_findings.specs.Findings.{reported_of_reading as spec_reported};
+ghost use Rattle.mailmap_findings.specs.Git.{read_in_place};
+ghost use Rattle.mailmap_findings.specs.Marks.{unmarked as spec_unmarked};
 ghost use Rattle.mailmap_findings.specs.Positions.{entry as spec_entry, has_entry_at, line_of, located_lines};
 
 use crate::git::read_in_place_of;
-use crate::verify::effects::reported_of_entry;
-use crate::verify::lines::{BufferLines, Line};
+use crate::verify::effects::{reported_of_proper, reported_without_effect};
+use crate::verify::lines::{BufferLines, Line, text_after_mark};
 use crate::verify::{Finding, FindingKind};
 use mailmap_entries::Entry;
 use mailmap_grammar::contacts::{non_empty, trim};
@@ -66,12 +70,14 @@ pub fn first_read_otherwise(buffers: &[&[u8]]) -> Option<Position>
     None
 }
 
-/// The findings of a line: about its text, about what git reads, and about its entry.
+/// The findings of a line: a byte order mark, and what is to be said of the line without it.
 ///
 /// Contracts see it as the list of the remaining findings.
 #[derive(Drop)]
 pub(crate) struct LineFindings<'a> {
+    pub(crate) of_mark: Option<Finding<'a>>,
     pub(crate) of_text: Option<Finding<'a>>,
+    pub(crate) of_names: Option<Finding<'a>>,
     pub(crate) of_git: Option<Finding<'a>>,
     pub(crate) of_entry: Option<Finding<'a>>,
 }
@@ -83,7 +89,8 @@ impl<'a> Model for LineFindings<'a> {
 
     ghost Value = { List Finding };
 
-    ghost view = { λ s. option_to_list (option_map finding_of s.of_text)
+    ghost view = { λ s. option_to_list (option_map finding_of s.of_mark)
+        ++ option_to_list (option_map finding_of s.of_text) ++ option_to_list (option_map finding_of s.of_names)
         ++ option_to_list (option_map finding_of s.of_git) ++ option_to_list (option_map finding_of s.of_entry) };
 }
 
@@ -95,7 +102,13 @@ impl<'a> Iterator for LineFindings<'a> {
     ghost remaining = { item_count (λ s. s) };
 
     fn next(&mut self) -> Option<Finding<'a>> {
+        if let Some(finding) = self.of_mark.take() {
+            return Some(finding);
+        }
         if let Some(finding) = self.of_text.take() {
+            return Some(finding);
+        }
+        if let Some(finding) = self.of_names.take() {
             return Some(finding);
         }
         if let Some(finding) = self.of_git.take() {
@@ -106,19 +119,94 @@ impl<'a> Iterator for LineFindings<'a> {
 }
 
 /// Computes the findings of a line.
-#[tactic(auto, using(crate::proofs::Lines::mapped))]
 pub(crate) fn line_findings<'a>(effective: &Effective<'_, 'a>, line: &Line<'a>) -> LineFindings<'a>
     requires { IsStrictlySortedBy position_cmp (map (λ x. x.position) effective.now.kept) }
     ensures { result ≡ findings (entries effective.now.history) effective.now.kept (line_of line.now) }
 {
-    let (of_text, entry) = finding_and_entry(line);
-    let of_git = read_in_place_of(entry, line.text).map(FindingKind::GitReads);
-    let is_kept = is_kept(effective, line.position);
-    let of_entry = reported_of_entry(effective, entry, is_kept);
+    let unmarked = unmarked(line);
+    let (of_text, entry) = finding_and_entry(&unmarked);
+    let of_git = reported_of_git(entry, unmarked.text);
+    let of_entry = reported_of_effect(effective, line, entry);
     LineFindings {
+        of_mark: finding_at(line.position, reported_mark(line)),
         of_text: finding_at(line.position, of_text),
+        of_names: finding_at(line.position, reported_of_names(entry)),
         of_git: finding_at(line.position, of_git),
         of_entry: finding_at(line.position, of_entry),
+    }
+}
+
+// The line without a byte order mark.
+fn unmarked<'a>(line: &Line<'a>) -> Line<'a>
+    ensures { line_of result ≡ spec_unmarked (line_of line.now) }
+{
+    Line {
+        position: line.position,
+        text: text_after_mark(line).unwrap_or(line.text),
+    }
+}
+
+fn reported_mark<'a>(line: &Line<'_>) -> Option<FindingKind<'a>>
+    ensures { option_map kind_of result ≡ reported_mark (line_of line.now) }
+{
+    text_after_mark(line)?;
+    Some(FindingKind::ByteOrderMark)
+}
+
+// Reports what the entry of a line does. `unmarked` is the entry of the line without a byte order mark.
+fn reported_of_effect<'a>(
+    effective: &Effective<'_, 'a>,
+    line: &Line<'a>,
+    unmarked: Option<Entry<'a>>,
+) -> Option<FindingKind<'a>>
+    requires sorted { IsStrictlySortedBy position_cmp (map (λ x. x.position) effective.now.kept) }
+    requires entry { option_map mapping_of unmarked ≡ spec_entry (spec_unmarked (line_of line.now)) }
+    ensures { option_map kind_of result
+        ≡ spec_effect (entries effective.now.history) effective.now.kept (line_of line.now) }
+{
+    let entry = own_entry(line, unmarked)?;
+    if is_kept(effective, line.position) {
+        let bare = text_after_mark(line).is_some();
+        return reported_of_proper(effective, unmarked?, bare);
+    }
+    reported_without_effect(effective, &entry, unmarked.unwrap_or(entry))
+}
+
+// The entry of a line as it is.
+fn own_entry<'a>(line: &Line<'a>, unmarked: Option<Entry<'a>>) -> Option<Entry<'a>>
+    requires { option_map mapping_of unmarked ≡ spec_entry (spec_unmarked (line_of line.now)) }
+    ensures { option_map mapping_of result ≡ spec_entry (line_of line.now) }
+{
+    match text_after_mark(line) {
+        Some(_) => entry_of(line),
+        None => unmarked,
+    }
+}
+
+// Reports a new name or an old one that begins with `#`.
+fn reported_of_names<'a>(entry: Option<Entry<'_>>) -> Option<FindingKind<'a>>
+    ensures { option_map kind_of result ≡ option_and_then spec_names (option_map mapping_of entry.entry) }
+{
+    let entry = entry?;
+    if begins_like_comment(entry.new_name()) || begins_like_comment(entry.old_name()) {
+        return Some(FindingKind::CommentInLine);
+    }
+    None
+}
+
+fn reported_of_git<'a>(entry: Option<Entry<'_>>, line: &'a [u8]) -> Option<FindingKind<'a>>
+    ensures { option_map kind_of result
+        ≡ option_map git_reads (read_in_place (option_map mapping_of entry.entry) line.now) }
+{
+    read_in_place_of(entry, line).map(FindingKind::GitReads)
+}
+
+fn begins_like_comment(name: Option<&[u8]>) -> bool
+    ensures { result ≡ is_comment (unwrap_or (option_copied name.entry) []) }
+{
+    match name {
+        Some([b'#', ..]) => true,
+        _ => false,
     }
 }
 
