@@ -1,18 +1,46 @@
 /* Times lookups in C, by gix_mailmap or by libgit2, and prints a line as mailmap_bench does.
  *
- *     c_lookups gix MAP CONTACTS [N]       gix_mailmap_lookup
- *     c_lookups libgit2 MAP CONTACTS [N]   git_mailmap_resolve
+ *     c_lookups gix MAP CONTACTS N         gix_mailmap_lookup
+ *     c_lookups libgit2 MAP CONTACTS N     git_mailmap_resolve
+ *     c_lookups threads MAP CONTACTS N     gix_mailmap_lookup by one, two and four threads
  *
- * The map is opened and the contacts are split before the clock runs. The first byte of each resulting name and email
- * is read, and each returned length: `texts` is their sum, as in mailmap_bench's bench-answer. libgit2 takes texts that
- * end with a NUL, lends its answers and returns no length; gix_mailmap takes lengths, copies and returns them.
+ * The map is opened and the contacts are split before the clock runs, and the shortest of N rounds counts. The first
+ * byte of each resulting name and email is read, and each returned length: `texts` is their sum, as in mailmap_bench's
+ * bench-answer. libgit2 takes texts that end with a NUL, lends its answers and returns no length; gix_mailmap takes
+ * lengths, copies and returns them.
+ *
+ * In a round of several threads each looks all contacts up, from the start of the first to the end of the last. For
+ * each number of threads a line has that number, the lookups in a second, how many times as many as of one thread, and
+ * the nanoseconds of the processor for a lookup.
  */
 #define _POSIX_C_SOURCE 200809L
 #include "c_contacts.h"
 #include "gix_mailmap.h"
 #include <git2.h>
+#include <pthread.h>
+#include <stdatomic.h>
 #include <stdint.h>
 #include <time.h>
+
+enum { MOST_THREADS = 4 };
+
+/* the work of one thread, and its results */
+typedef struct {
+    const gix_mailmap *map;
+    contacts given;
+    atomic_int *missing;
+    long long start;
+    long long end;
+    long long processor;
+    size_t texts;
+} job;
+
+/* how long a round took, and how much processor time all threads used */
+typedef struct {
+    long long time;
+    long long processor;
+    size_t texts;
+} taken;
 
 static size_t read_text(const char *bytes, size_t len)
 {
@@ -45,39 +73,89 @@ static size_t look_up_there(const git_mailmap *map, contacts given)
     return texts;
 }
 
-static long long now(void)
+static long long now(clockid_t clock)
 {
     struct timespec time;
-    clock_gettime(CLOCK_MONOTONIC, &time);
+    clock_gettime(clock, &time);
     return time.tv_sec * 1000000000LL + time.tv_nsec;
+}
+
+static void *run_job(void *given)
+{
+    job *own = given;
+    /* all begin at once; a thread that sleeps until then would begin late */
+    atomic_fetch_sub(own->missing, 1);
+    while (atomic_load(own->missing) > 0)
+        ;
+    own->start = now(CLOCK_MONOTONIC);
+    long long used = now(CLOCK_THREAD_CPUTIME_ID);
+    own->texts = look_up_here(own->map, own->given);
+    own->processor = now(CLOCK_THREAD_CPUTIME_ID) - used;
+    own->end = now(CLOCK_MONOTONIC);
+    return NULL;
+}
+
+static taken run_round(const gix_mailmap *map, contacts given, int threads)
+{
+    pthread_t started[MOST_THREADS];
+    job jobs[MOST_THREADS];
+    atomic_int missing = threads;
+    for (int i = 0; i < threads; i++) {
+        jobs[i] = (job){.map = map, .given = given, .missing = &missing};
+        must(pthread_create(&started[i], NULL, run_job, &jobs[i]) == 0, "no thread");
+    }
+    long long start = INT64_MAX, end = 0, processor = 0;
+    for (int i = 0; i < threads; i++) {
+        must(pthread_join(started[i], NULL) == 0 && jobs[i].texts == jobs[0].texts, "other answers");
+        start = jobs[i].start < start ? jobs[i].start : start;
+        end = jobs[i].end > end ? jobs[i].end : end;
+        processor += jobs[i].processor;
+    }
+    return (taken){end - start, processor, jobs[0].texts};
+}
+
+static taken least(taken a, taken b)
+{
+    return (taken){a.time < b.time ? a.time : b.time, a.processor < b.processor ? a.processor : b.processor, b.texts};
+}
+
+static void time_threads(const gix_mailmap *map, contacts given, long rounds)
+{
+    taken best[3];
+    for (long round = 0; round < rounds; round++)
+        for (int i = 0; i < 3; i++) {
+            taken one = run_round(map, given, 1 << i);
+            best[i] = round == 0 ? one : least(best[i], one);
+        }
+    for (int i = 0; i < 3; i++) {
+        double lookups = (double)given.len * (1 << i);
+        printf("%d %.0f %.2f %.0f\n", 1 << i, lookups * 1e9 / (double)best[i].time,
+               (double)best[0].time * (1 << i) / (double)best[i].time, (double)best[i].processor / lookups);
+    }
 }
 
 int main(int count, char **words)
 {
-    must(count >= 4, "gix or libgit2, a map and contacts are wanted");
-    bool is_here = strcmp(words[1], "gix") == 0;
+    must(count == 5, "c_lookups gix|libgit2|threads MAP CONTACTS N");
     text map = read_file(words[2]);
     contacts given = contacts_of(read_file(words[3]));
-    long runs = count > 4 ? atol(words[4]) : 1;
+    long rounds = atol(words[4]);
+    bool is_there = strcmp(words[1], "libgit2") == 0;
     gix_mailmap *here = NULL;
     git_mailmap *there = NULL;
     git_libgit2_init();
-    if (is_here)
-        must(gix_mailmap_open(&here, map.bytes, map.len) == GIX_MAILMAP_OK, "open");
-    else
-        must(git_mailmap_from_buffer(&there, map.bytes, map.len) == 0, "libgit2 can't read the map");
-    long long least = -1, total = 0;
-    size_t texts = 0;
-    for (long run = 0; run < runs; run++) {
-        long long start = now();
-        texts = is_here ? look_up_here(here, given) : look_up_there(there, given);
-        long long took = now() - start;
-        total += took;
-        least = least < 0 || took < least ? took : least;
+    must(gix_mailmap_open(&here, map.bytes, map.len) == GIX_MAILMAP_OK, "open");
+    must(!is_there || git_mailmap_from_buffer(&there, map.bytes, map.len) == 0, "libgit2 can't read the map");
+    if (strcmp(words[1], "threads") == 0) {
+        time_threads(here, given, rounds);
+        return 0;
     }
-    printf("bench-answer iters=%ld total_ns=%lld min_ns=%lld contacts=%zu texts=%zu\n", runs, total, least, given.len,
-           texts);
-    gix_mailmap_close(here);
-    git_mailmap_free(there);
+    taken best = {INT64_MAX, 0, 0};
+    for (long round = 0; round < rounds; round++) {
+        long long start = now(CLOCK_MONOTONIC);
+        size_t texts = is_there ? look_up_there(there, given) : look_up_here(here, given);
+        best = least(best, (taken){now(CLOCK_MONOTONIC) - start, 0, texts});
+    }
+    printf("bench-answer min_ns=%lld contacts=%zu texts=%zu\n", best.time, given.len, best.texts);
     return 0;
 }

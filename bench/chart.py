@@ -1,15 +1,8 @@
-#!/usr/bin/python3
-"""Draws what peers.py measured: the time of the whole process and its peak memory, over the lines of the map.
+"""Draws what processes.py measured: the time of the whole process and its peak memory, over the lines of the map.
 
-    chart.py FIGURES FOLDER        writes benchmarks.svg and benchmarks-memory.svg into FOLDER
-
-FIGURES is the JSON file that figures.py writes. It needs matplotlib (Debian's python3-matplotlib). Both axes are
-logarithmic; the empty map is at their left end. If a program was stopped, its line ends there.
+It needs matplotlib (Debian's python3-matplotlib). Both axes are logarithmic; the empty map is at their left end. If a
+program was stopped, its line ends there.
 """
-import json
-import sys
-from pathlib import Path
-
 import matplotlib
 
 matplotlib.use("Agg")
@@ -30,9 +23,9 @@ EMPTY = 100
 
 def points(cells, kind, contacts, program, key):
     """The numbers of lines of the maps of a kind, and the program's figure for each."""
-    chosen = [c for c in cells if c["map"] in (kind, "empty") and c["contacts"] == contacts]
-    found = [(c["lines"] or EMPTY, c["peers"][program][key]) for c in chosen if key in c["peers"][program]]
-    return zip(*sorted(found))
+    costs = [(cell.lines or EMPTY, cell.costs.get(program)) for cell in cells
+             if cell.map in (kind, "empty") and cell.contacts == contacts]
+    return zip(*sorted((lines, getattr(cost, key)) for lines, cost in costs if cost and not cost.fault))
 
 
 def count(number, _place=None):
@@ -50,9 +43,9 @@ def mebibytes(number, _place=None):
 
 def panel(axes, cells, kind, contacts, key, text):
     for program, (colour, mark, width) in LOOKS.items():
-        over, found = points(cells, kind, contacts, program, key)
-        axes.plot(over, found, color=colour, marker=mark, markersize=4, linewidth=width, label=program)
-    lines = sorted({c["lines"] or EMPTY for c in cells})
+        found = list(points(cells, kind, contacts, program, key))
+        axes.plot(*found or ([], []), color=colour, marker=mark, markersize=4, linewidth=width, label=program)
+    lines = sorted({cell.lines or EMPTY for cell in cells})
     axes.set_xscale("log")
     axes.set_yscale("log", base=10 if key == "time" else 2)
     axes.xaxis.set_major_locator(FixedLocator(lines))
@@ -67,7 +60,7 @@ def panel(axes, cells, kind, contacts, key, text):
 
 def drawn(path, cells, key, title, text):
     """A row of panels for each number of contacts, with a panel for each kind of map."""
-    rows = sorted({c["contacts"] for c in cells})
+    rows = sorted({cell.contacts for cell in cells})
     size = (10.5, 3 * len(rows) + 0.7)
     figure, grid = pyplot.subplots(len(rows), len(KINDS), figsize=size, sharex=True, sharey=True, squeeze=False)
     for axes_row, contacts in zip(grid, rows):
@@ -85,18 +78,8 @@ def drawn(path, cells, key, title, text):
     pyplot.close(figure)
 
 
-def charts(figures, folder):
-    """Writes both charts and returns their paths."""
-    # equal figures give equal bytes; text stays text
+def charts(cells, folder):
+    """Writes both charts. Equal figures give equal bytes, and text stays text."""
     matplotlib.rcParams.update({"svg.hashsalt": "mailmap_check", "svg.fonttype": "none"})
-    cells = figures["processes"]
-    times, peaks = Path(folder) / "benchmarks.svg", Path(folder) / "benchmarks-memory.svg"
-    drawn(times, cells, "time", "Time of the whole process", seconds)
-    drawn(peaks, cells, "peak", "Peak memory of the whole process", mebibytes)
-    return [times, peaks]
-
-
-if __name__ == "__main__":
-    if len(sys.argv) != 3:
-        sys.exit(__doc__)
-    charts(json.loads(Path(sys.argv[1]).read_text(encoding="utf-8")), sys.argv[2])
+    drawn(folder / "benchmarks.svg", cells, "time", "Time of the whole process", seconds)
+    drawn(folder / "benchmarks-memory.svg", cells, "peak", "Peak memory of the whole process", mebibytes)

@@ -1,13 +1,8 @@
-#!/usr/bin/env python3
 """Makes mailmaps and contacts that might be hard on a program, by families, and each family for any number of lines.
 
-    make_families.py FOLDER FAMILY LINES    writes the mailmaps 0, 1 and so on and, if it has such, contacts
-    make_families.py --list                 prints the families, and what each is
-
 All is written in parts as it is made, so a million lines take no more memory than a thousand. The same call writes the
-same bytes everywhere. families.py measures with these.
+same bytes everywhere.
 """
-import argparse
 from collections.abc import Callable, Iterable, Iterator
 from dataclasses import dataclass
 from itertools import chain, islice, repeat
@@ -317,12 +312,6 @@ FAMILIES = [
 ]
 
 
-def merged_one_by_one(names: int) -> Text:
-    """Many names of one email, and then another line for each of them."""
-    yield from numbered(b"Jane <j@x> n%07d <a@x>\n", shuffled(names))
-    yield from numbered(b"Joan <k@x> n%07d <a@x>\n", (names - 1 - number for number in shuffled(names)))
-
-
 def write(path: Path, text: Text) -> int:
     """Writes a text, and returns its length."""
     with path.open("wb") as file:
@@ -330,31 +319,4 @@ def write(path: Path, text: Text) -> int:
 
 
 def named(name: str) -> Family:
-    for family in FAMILIES:
-        if family.name == name:
-            return family
-    raise SystemExit(f"make_families.py: no family {name}")
-
-
-def main() -> None:
-    parser = argparse.ArgumentParser(description=__doc__, formatter_class=argparse.RawDescriptionHelpFormatter)
-    parser.add_argument("--list", action="store_true")
-    parser.add_argument("folder", nargs="?", type=Path)
-    parser.add_argument("family", nargs="?")
-    parser.add_argument("lines", nargs="?", type=int)
-    given = parser.parse_args()
-    if given.list:
-        print("\n".join(f"{family.name}: {family.what}" for family in FAMILIES))
-        return
-    if given.lines is None:
-        parser.error("FOLDER, FAMILY and LINES")
-    given.folder.mkdir(parents=True, exist_ok=True)
-    made = named(given.family).make(given.lines)
-    for number, text in enumerate(made.mailmaps):
-        write(given.folder / str(number), text)
-    if made.contacts is not None:
-        write(given.folder / "contacts", made.contacts)
-
-
-if __name__ == "__main__":
-    main()
+    return next(family for family in FAMILIES if family.name == name)

@@ -1,9 +1,6 @@
-#!/usr/bin/env python3
 """Makes the maps and the contacts that the benchmarks measure with.
 
-    make_maps.py FOLDER [LINES ..]      LINES: 1000 10000 100000 1000000 if none is given
-
-For each number of lines it writes into FOLDER three maps and four lists of contacts for each map:
+For each number of lines there are three maps and four lists of contacts for each map:
 
     mixed-LINES.mailmap       the emails in random order, one to three lines an email
     sorted-LINES.mailmap      the same lines, in the order of their old emails
@@ -18,8 +15,6 @@ generator has a seed, so the same call writes the same bytes everywhere.
 """
 import itertools
 import random
-import sys
-from pathlib import Path
 
 FIRST = """Ada Alan Alice Amir Anna Anton Barbara Bjarne Bob Carla Chen Claire Dana David Dmitri Edsger Elena Emil Eva
 Fatima Felix Fran Grace Hana Hugo Ines Ivan Jane Joan Joe John Jorge Julia Karl Katya Ken Lars Leslie Li Linus Luis
@@ -170,12 +165,12 @@ def counted(folder, stem, some):
         (folder / f"{stem}.{count}.contacts").write_text(text, encoding="utf-8")
 
 
-def main():
-    folder = Path(sys.argv[1])
+def make(folder, sizes):
+    """Writes the maps of these sizes, with their contacts."""
     folder.mkdir(parents=True, exist_ok=True)
     (folder / "empty-0.mailmap").write_bytes(b"")
     counted(folder, "empty-0", list(missed(random.Random(0), MOST_CONTACTS)))
-    for lines in [int(word) for word in sys.argv[2:]] or [1_000, 10_000, 100_000, 1_000_000]:
+    for lines in sizes:
         rng = random.Random(lines)
         others = lines // 64
         some = mixed(rng, lines - others)
@@ -186,9 +181,3 @@ def main():
         for kind, entries in [("mixed", some), ("sorted", by_email), ("hundred", many)]:
             written(rng, folder / f"{kind}-{lines}.mailmap", entries, others)
             contacts(rng, folder, f"{kind}-{lines}", entries)
-
-
-if __name__ == "__main__":
-    if len(sys.argv) < 2 or sys.argv[1].startswith("-"):
-        sys.exit(__doc__)
-    main()

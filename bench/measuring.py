@@ -1,8 +1,7 @@
-"""Shared by the benchmarks and some tests: building and running programs, alternating rounds, and tables."""
-import argparse
-import json
+"""Shared by the benchmarks and some tests: runs programs, in turn, and makes tables."""
 import os
 import re
+import signal
 import subprocess
 import tempfile
 import time
@@ -12,15 +11,17 @@ from pathlib import Path
 from typing import Any
 
 HERE = Path(__file__).resolve().parent
-# the page for readers, and what scripts write: figures as JSON, charts, and the tables that are too long for the page
-PAGE = HERE.parent / "docs" / "BENCHMARKS.md"
-RESULTS = HERE / "results"
 KINDS = ["mixed", "sorted", "hundred"]
 MILLION = 1_000_000
+CHECK, ORIGINAL, GIT, LIBGIT2 = PEERS = ["mailmap_check", "original", "git", "libgit2"]
 
 
 class Failed(Exception):
     """An error that is reported in one line, without a traceback."""
+
+
+class Skipped(Exception):
+    """Why something can't be measured here."""
 
 
 def scratch() -> "tempfile.TemporaryDirectory[str]":
@@ -28,7 +29,7 @@ def scratch() -> "tempfile.TemporaryDirectory[str]":
     return tempfile.TemporaryDirectory(dir="/dev/shm" if Path("/dev/shm").is_dir() else None)
 
 
-def built(name: str, folder: str | Path, *flags: str) -> str:
+def built(name: str, folder: str | Path, *flags: str | Path) -> str:
     """Builds a C program of this directory into another, and returns its path."""
     program = Path(folder) / name
     subprocess.run(["cc", "-O2", "-o", program, HERE / f"{name}.c", *flags], check=True)
@@ -86,68 +87,126 @@ def rounds(seconds: float, least: int = 2, most: int = 50) -> Iterator[int]:
         yield number
 
 
+@dataclass
+class Cost:
+    """The least time of some runs in nanoseconds, from start to end or of the processor, and their largest peak in
+    bytes; or in one word why there is none.
+    """
+
+    time: int = 0
+    peak: int = 0
+    fault: str = ""
+
+
+@dataclass(frozen=True)
+class Limits:
+    """After how many seconds of processor time a program is stopped, and from how many on it runs once; the fewest
+    runs; and whether times are those of the processor.
+    """
+
+    stop: float = 600
+    once: float = 600
+    runs: int = 2
+    processor: bool = False
+
+
+LIMITS = Limits()
+
+
+@dataclass(frozen=True)
+class Bench:
+    """The programs that are here by their names, the folder of the maps and their sizes, a folder in memory for input
+    and output, the program measure.c, and how many seconds a cell may take.
+    """
+
+    programs: Mapping[str, str]
+    maps: Path
+    sizes: Sequence[int]
+    folder: Path
+    measure: str
+    seconds: float
+
+    def needs(self, *names: str) -> None:
+        for name in names:
+            if name not in self.programs:
+                raise Skipped(f"{name} is not here")
+
+    def mapping(self, mailmap: str | Path, names: Sequence[str] = PEERS) -> dict[str, list[str]]:
+        """The command lines that answer contacts by a mailmap, of the programs that are here."""
+        git = ["-C", f"{self.folder}/repository", "-c", f"mailmap.file={mailmap}", "check-mailmap", "--stdin"]
+        words = {CHECK: [str(mailmap)], ORIGINAL: ["check", str(mailmap)], GIT: git, LIBGIT2: [str(mailmap)]}
+        return {name: [self.programs[name], *words[name]] for name in names if name in self.programs}
+
+    def in_turn(
+        self, commands: Mapping[str, list[str]], stdin: str | Path = "/dev/null", limits: Limits = LIMITS, **stdins: str
+    ) -> dict[str, Cost]:
+        """Runs programs in turn, and returns what each costs. `stdins` are for those with another standard input."""
+        found: dict[str, Cost] = {}
+        for _ in rounds(self.seconds, limits.runs):
+            for name, words in commands.items():
+                before = found.get(name)
+                if before and (before.fault or before.time > limits.once * 1e9):
+                    continue
+                cost = self.cost(name, words, stdins.get(name, str(stdin)), limits)
+                if before and not cost.fault:
+                    cost = Cost(min(cost.time, before.time), max(cost.peak, before.peak))
+                found[name] = cost
+        return found
+
+    def cost(self, name: str, words: list[str], stdin: str, limits: Limits) -> Cost:
+        """One run in the folder, so that the names of very many files may be short."""
+        ended = run(self.measure, words, stdin, self.answers(name), limits.stop, cwd=self.folder, env=settings())
+        if ended.status == 128 + signal.SIGXCPU:
+            return Cost(fault=f"> {limits.stop} s")
+        if not succeeded(words[0], ended):
+            return Cost(fault="> 8 GiB" if "memory" in ended.complaints else f"status {ended.status}")
+        return Cost(ended.processor if limits.processor else ended.nanos, ended.peak)
+
+    def answers(self, name: str) -> str:
+        """The file with the last output of a program."""
+        return f"{self.folder}/{re.sub(r'[^a-z0-9]+', '-', name)}.answers"
+
+    def answers_of(self, name: str) -> bytes:
+        return Path(self.answers(name)).read_bytes()
+
+
+def settings() -> dict[str, str]:
+    """The environment, without anyone's settings of git."""
+    return {**os.environ, "GIT_CONFIG_NOSYSTEM": "1", "GIT_CONFIG_GLOBAL": "/dev/null"}
+
+
+def fields(line: str) -> dict[str, int]:
+    """The numbers in the output of mailmap_bench and of its peers."""
+    return {key: int(value) for key, value in re.findall(r"(\w+)=(\d+)", line)}
+
+
 def duration(nanos: float) -> str:
     unit, size = next((u for u in [("s", 1e9), ("ms", 1e6), ("µs", 1e3)] if nanos >= u[1]), ("ns", 1.0))
     count = nanos / size
     return f"{count:.0f} {unit}" if count >= 100 else f"{count:.3g} {unit}"
 
 
-def mebibytes(count: int) -> str:
+def mebibytes(count: float) -> str:
     return f"{count / 2**20:.1f} MiB"
 
 
-def ratio(port: float, peer: float, aim: float | None = None) -> list[str]:
-    """The ratio of the port to its peer, and the aim, marked if it is reached, as the last two columns of a row."""
-    found = port / peer
+def shown(cost: Cost | None, what: str = "time") -> str:
+    """A time or a peak, or why there is none."""
+    if cost is None:
+        return ""
+    return cost.fault or (duration(cost.time) if what == "time" else mebibytes(cost.peak))
+
+
+def ratio(one: Cost | None, other: Cost | None, aim: float | None = None, what: str = "time") -> str:
+    """A ratio of two costs, marked if there is an aim."""
+    if not one or not other or one.fault or other.fault:
+        return ""
+    found = getattr(one, what) / max(getattr(other, what), 1)
     text = f"{found:.3f}" if found < 0.1 else f"{found:.2f}"
-    if aim is None:
-        return [text, ""]
-    return [text, f"{aim:g} {'✓' if found <= aim else '✗'}"]
+    return text if aim is None else f"{text} {'✓' if found <= aim else '✗'}"
 
 
-def marked_ratio(port: float, peer: float, aim: float | None = None) -> str:
-    """Port to peer in one column, with a mark if there is an aim."""
-    text, reached = ratio(port, peer, aim)
-    return f"{text} {reached[-1:]}".strip()
-
-
-def table(head: list[str], rows: list[list[str]]) -> str:
+def table(head: Sequence[str], rows: Sequence[Sequence[str]]) -> str:
     """A table in Markdown. Columns whose head starts with a space hold numbers."""
     lines = [head, ["--:" if name.startswith(" ") else "---" for name in head], *rows]
     return "\n".join("| " + " | ".join(text.strip() for text in line) + " |" for line in lines)
-
-
-def versions() -> dict[str, str]:
-    """The processor and the system that the figures come from."""
-    cpu = re.search(r"model name\s*:\s*(.*)", Path("/proc/cpuinfo").read_text())
-    system = f"{os.uname().sysname}, {os.cpu_count()} processors"
-    return {"processor": cpu.group(1) if cpu else "unknown", "system": system}
-
-
-def put_in(path: Path, texts: Mapping[str, str]) -> None:
-    """Puts each text between its two marks in a document."""
-    document = path.read_text(encoding="utf-8")
-    for name, text in texts.items():
-        first, last = f"<!-- {name} -->\n", f"<!-- end of {name} -->\n"
-        if document.count(first) != 1 or document.count(last) != 1:
-            raise Failed(f"{path}: it should have one {first.strip()} and one {last.strip()}")
-        before, rest = document.split(first)
-        document = f"{before}{first}\n{text}\n\n{last}{rest.split(last)[1]}"
-    path.write_text(document, encoding="utf-8")
-
-
-def stored(path: str | Path, figures: object) -> None:
-    Path(path).write_text(json.dumps(figures, indent=1, ensure_ascii=False) + "\n", encoding="utf-8")
-
-
-def options(description: str, sizes: Sequence[int]) -> tuple[argparse.Namespace, list[int]]:
-    """The arguments of a script that compares the port with the original, and the numbers of lines to measure."""
-    parser = argparse.ArgumentParser(description=description, formatter_class=argparse.RawDescriptionHelpFormatter)
-    parser.add_argument("original")
-    parser.add_argument("port")
-    parser.add_argument("maps", type=Path)
-    parser.add_argument("--seconds", type=float, default=4)
-    parser.add_argument("--without-million", action="store_true")
-    parser.add_argument("--only", default="", help="measure only the cells whose name contains this text")
-    given = parser.parse_args()
-    return given, [lines for lines in sizes if lines < MILLION or not given.without_million]

@@ -1,14 +1,13 @@
 #!/usr/bin/env python3
 """Checks that everything that the pages name exists.
 
-In all pages: files, links, laws, commands of the Makefile, crates. In docs/MODEL.md: the files of definitions, what the
-sections on definitions define, each function with its clauses and each mutant or test in the table of promises, where
-each mutant is in one row. In docs/ARCHITECTURE.md: the arrows of the graph, which are those of crates.txt, and the
-modules of the table. In these two and in CONTRIBUTING.md: all other names in code.
+In all pages: files, links, laws, commands of the Makefile, crates. In docs/MODEL.md: the clauses that it quotes, to the
+letter but for spaces. In docs/ARCHITECTURE.md: the arrows of the graph, which are those of crates.txt. In these two and
+in CONTRIBUTING.md: all other names in code. Also, that each module says in its first line what it does, and each file
+of definitions what it defines.
 """
 import re
 import sys
-from collections import defaultdict
 from itertools import pairwise
 from pathlib import Path
 
@@ -40,72 +39,57 @@ class Sources:
     """What the crates declare."""
 
     def __init__(self):
-        # the clauses of each function and type, by its name alone, and after that of its type, its module and its crate
-        self.clauses = defaultdict(set)
-        # what is in the files of definitions, and all other names; a module also after the one that it is in
-        self.defined, self.names = set(), set()
-        self.mutants = {file.stem for file in TOP.glob("crates/*/must-fail/*.edit")}
-        self.names.update(file.name for file in (*TOP.glob("*"), *TOP.glob("crates/*/*")))
+        # A module is also there after the one that it is in, and a function after its type, its module and its crate.
+        self.names = {file.name for file in (*TOP.glob("*"), *TOP.glob("crates/*/*"))}
         self.names.update(re.findall(r"\bgix_mailmap_\w+", (TOP / "include/gix_mailmap.h").read_text()))
         for file in TOP.glob("crates/*/src/**/*.rt"):
             crate, _, *inner = file.relative_to(TOP / "crates").with_suffix("").parts
             self.names.update((crate, *inner), map("::".join, pairwise((crate, *inner))))
             self.read(file.read_text(), crate, file.stem)
         for file in TOP.glob("crates/*/specs/*.antt"):
-            self.defined.update(DEFINED.findall(file.read_text()))
+            self.names.update(DEFINED.findall(file.read_text()))
 
     def read(self, text, crate, module):
-        owner, keys = "", []
+        owner = ""
         for found in DECLARED.finditer(text):
             kind, name = found.lastgroup, found[found.lastgroup]
             self.names.add(name)
             if kind in ("function", "item"):
                 owner = owner if found[0].startswith(" ") else ""
-                keys = [name, *(f"{place}::{name}" for place in (owner, module, crate))]
+                self.names.update(f"{place}::{name}" for place in (owner, module, crate))
             elif kind == "owner":
-                owner, keys = name, [name]
-            for key in keys:
-                self.clauses[key].update([name] if kind == "clause" else [])
-
-
-def table(text, heading):
-    """The cells of the rows of the first table after a heading, without its head."""
-    rows = re.search(re.escape(heading) + r"\n.*?\n\|.*?\n\|[-|]+\n(.*?)(?:\n\n|\Z)", text, re.DOTALL)[1]
-    return [[cell.strip() for cell in row.strip("|").split(" | ")] for row in rows.splitlines()]
+                owner = name
 
 
 def unknown(text, sources):
     """The names in the text's code that are declared nowhere."""
     text = re.sub(r"^```.*?^```|^    .*?$", "", text, flags=re.DOTALL | re.MULTILINE)
-    there = sources.names | sources.defined | sources.mutants | KNOWN | set(sources.clauses)
+    there = sources.names | KNOWN
     for name in set(re.findall(r"`((?:\w+::)*[A-Za-z]\w+)(?: [a-z ]+)?`", text)):
         parts = name.split("::")
         yield from (f"nothing is named {part}" for part in {parts[0], *map("::".join, pairwise(parts))} - there)
 
 
+def functions_named(crate, name):
+    """The text of each function of a crate with this name, from there to the next function."""
+    for file in TOP.glob(f"crates/{crate}/src/**/*.rt"):
+        pattern = rf"\bfn {name}\b.*?(?=\n *(?:pub(?:\(crate\))? )?fn |\Z)"
+        for found in re.finditer(pattern, file.read_text(), re.DOTALL):
+            yield " ".join(found[0].split())
+
+
 def model(sources):
-    """The names in docs/MODEL.md that don't exist."""
+    """The names in docs/MODEL.md that don't exist, and the clauses that aren't as they are quoted."""
     text = MODEL.read_text()
-    for crate, *files in table(text, "## Where the definitions are"):
-        there = {file.stem for file in TOP.glob(f"crates/{crate.strip('`')}/specs/*.antt")} - {"Lib"}
-        listed = set(re.findall(r"\w+", " ".join(files)))
-        yield from (f"the files of {crate} differ in {file}" for file in there ^ listed)
-    definitions, promises = text.split("## Texts")[1].split("## Promises")
-    for name in set(re.findall(r"^- `(\w+)", definitions, re.MULTILINE)) - sources.defined:
-        yield f"no definition {name}"
-    rows = table("## Promises" + promises, "## Promises")
-    for _, contracts, tests in rows:
-        for function, clauses in re.findall(r"`([\w:]+)`(?: \(([^)]*)\))?", contracts):
-            if function not in sources.clauses:
-                yield f"no function {function}"
-            for clause in set(re.findall(r"\w+", clauses)) - sources.clauses.get(function, set()):
-                yield f"{function} has no clause {clause}"
-        for test in set(re.findall(r"`([a-z0-9]+(?:_[a-z0-9]+){2,})`", tests)) - sources.mutants - sources.names:
-            yield f"no mutant or test {test}"
-    for mutant in sources.mutants:
-        if (count := sum(f"`{mutant}`" in tests for *_, tests in rows)) != 1:
-            yield f"{count} rows have the mutant {mutant}"
-    yield from unknown(re.sub(r"^\|.*$", "", text, flags=re.MULTILINE), sources)
+    for function, crate, clause in re.findall(r"`([\w:]+)`\s+of\s+`(\w+)`:\n\n((?:    .*\n)+)", text):
+        if not any(" ".join(clause.split()) in there for there in functions_named(crate, function.split("::")[-1])):
+            yield f"{function} of {crate} has no clause {clause.strip()}"
+    if text.count("\n    ensures ") != len(re.findall(r"`\s+of\s+`\w+`:\n\n    ensures ", text)):
+        yield "a clause without its function and crate"
+    for file in TOP.glob("crates/*/specs/*.antt"):
+        if file.stem != "Lib" and not file.read_text().startswith("-- "):
+            yield f"{file.relative_to(TOP)} doesn't say what it defines"
+    yield from unknown(text, sources)
 
 
 def reached(crate, uses):
@@ -123,15 +107,14 @@ def architecture(sources):
               if not any(used in reached(other, uses) for other in uses[crate])}
     drawn = set(re.findall(r"^ *(\w+) --> (\w+)$", text, re.MULTILINE))
     yield from (f"the graph and crates.txt differ in {' --> '.join(arrow)}" for arrow in arrows ^ drawn)
-    modules, crate = defaultdict(set), ""
-    for name, listed, _ in table(text, "## Modules"):
-        crate = name.strip("`") or crate
-        modules[crate].update(re.findall(r"`([\w:]+)`", listed))
-    for crate, listed in modules.items():
-        files = (file.relative_to(TOP / "crates" / crate / "src") for file in TOP.glob(f"crates/{crate}/src/**/*.rt"))
-        there = {"::".join(file.with_suffix("").parts) for file in files} - {"lib", "main"}
-        yield from (f"the table and the files of {crate} differ in {module}" for module in there ^ listed)
     yield from unknown(text, sources)
+
+
+def silent_modules():
+    """The modules whose first line doesn't say what they do; those of tests are named for their subjects."""
+    for file in TOP.glob("crates/*/src/**/*.rt"):
+        if "gix_mailmap_tests" not in file.parts and not file.read_text().startswith("//! "):
+            yield f"docs/ARCHITECTURE.md: {file.relative_to(TOP)} doesn't say what it does"
 
 
 def headings(text):
@@ -145,6 +128,7 @@ def missing(sources):
     targets = set(re.findall(r"^([a-z_]+):", (TOP / "Makefile").read_text(), re.MULTILINE))
     yield from (f"docs/MODEL.md: {what}" for what in model(sources))
     yield from (f"docs/ARCHITECTURE.md: {what}" for what in architecture(sources))
+    yield from silent_modules()
     yield from (f"CONTRIBUTING.md: {what}" for what in unknown(GUIDE.read_text(), sources))
     for page in PAGES:
         text, name = page.read_text(), page.relative_to(TOP)

@@ -1,5 +1,5 @@
 #!/usr/bin/env python3
-"""What `make vendor` puts into another repository: the README's steps from an empty one to a program, and then
+"""What `make vendor` puts into another repository: the steps of docs/RATTLE.md from an empty one to a program, and then
 copies that are there already, that others changed, and crates that aren't copies.
 
 The program is run without a proof. A proof reads what is copied of each crate, which is compared with the files here,
@@ -15,7 +15,7 @@ import runs
 from runs import wants
 
 TOP = Path(__file__).resolve().parents[1]
-PAGE = (TOP / "README.md").read_text(encoding="utf-8")
+PAGE = (TOP / "docs/RATTLE.md").read_text(encoding="utf-8")
 VERSION = (TOP / "VERSION").read_text(encoding="ascii").strip()
 # its repository, the folder of its program, and what that prints
 FOLDER, PROGRAM, PRINTED = "../contacts", "crates/one_contact", b"Jane Doe <jane@x>\n"
@@ -28,7 +28,7 @@ PARTS = ("src", "specs", "proofs")
 def block(kind):
     found = re.findall(rf"^```{kind}\n(.*?)^```$", PAGE, re.MULTILINE | re.DOTALL)
     if len(found) != 1:
-        sys.exit(f"vendor: README.md has {len(found)} blocks of {kind}, expected one")
+        sys.exit(f"vendor: docs/RATTLE.md has {len(found)} blocks of {kind}, expected one")
     return found[0]
 
 
@@ -73,7 +73,7 @@ def follow(folder, steps):
 
 
 def check_program(work):
-    """The README's steps from an empty repository to a program."""
+    """The steps of docs/RATTLE.md from an empty repository to a program."""
     folder = work / "contacts"
     put(folder, f"{PROGRAM}/src/main.rt", block("rust"))
     steps, tried, last = block("sh").replace(FOLDER, str(folder)).partition("rt try ")

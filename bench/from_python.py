@@ -1,19 +1,20 @@
 #!/usr/bin/python3
-"""Measures the package: lookups beside pygit2 and dulwich, and many contacts beside the program.
+"""Measures the package for Python: lookups beside pygit2 and dulwich, and many contacts beside mailmap_check. all.py
+runs it, and keeps the tables that it prints.
 
-    measure.py [PROGRAM [ROUNDS]]
+    PYTHONPATH=python from_python.py PROGRAM MAPS SECONDS
 
-PROGRAM is mailmap_check. All is measured by processor time: each time is the shortest of 20 rounds, or of ROUNDS, in
-which the ways take turns. In parentheses it is divided by that of pygit2, or by that of the program, for which all of
-its process counts. Lookups are those of the maps of bench/make_maps.py whose emails come in random order, `mixed`, and
-in their own, `sorted`. Debian's python3-pygit2 and python3-dulwich are what others have; without them their cells are
-empty. For files the time begins with the reading of the mailmap.
+PROGRAM is mailmap_check, and MAPS a folder with maps. All is measured by processor time: each time is the shortest of
+all rounds, in which the ways take turns, three at least and for SECONDS in all. In parentheses it is divided by that of
+pygit2, or by that of the program, for which all of its process counts. Without Debian's python3-pygit2 and
+python3-dulwich their cells are empty. For files the time begins with the reading of the mailmap.
 """
 import random
 import resource
 import subprocess
 import sys
 import tempfile
+import time
 from collections import deque
 from functools import partial
 from pathlib import Path
@@ -31,7 +32,6 @@ except ImportError:
 
 CONTACTS = 1_000_000
 LOOKUPS = 100_000
-MAKE_MAPS = Path(__file__).resolve().parents[1] / "bench" / "make_maps.py"
 
 
 def processor_time():
@@ -40,10 +40,11 @@ def processor_time():
     return sum(one.ru_utime + one.ru_stime for one in used)
 
 
-def in_turn(ways, rounds):
+def in_turn(ways, seconds):
     """The least processor time of each way that there is."""
-    least = [float("inf")] * len(ways)
-    for _ in range(rounds):
+    least, begin, done = [float("inf")] * len(ways), time.monotonic(), 0
+    while done < 3 or time.monotonic() - begin < seconds:
+        done += 1
         for number, way in enumerate(ways):
             if way is not None:
                 start = processor_time()
@@ -74,7 +75,7 @@ def each_pair(call, contacts):
         call(contact)
 
 
-def lookups(path, kind, rounds):
+def lookups(path, kind, seconds):
     """A row: lookups of contacts that a map has, or of such that it hasn't."""
     listed = path.with_suffix(f".{kind}").read_text(encoding="utf-8").splitlines()
     texts = [tuple(contact[:-1].split(" <")) for contact in listed]
@@ -86,7 +87,7 @@ def lookups(path, kind, rounds):
         ways[2] = partial(each, pygit2.Mailmap.from_buffer(path.read_text(encoding="utf-8")).resolve, texts)
     if Dulwich is not None:
         ways[3] = partial(each_pair, dulwich_of(path).lookup, contacts)
-    times = [taken / LOOKUPS * 1e9 for taken in in_turn(ways, rounds)]
+    times = [taken / LOOKUPS * 1e9 for taken in in_turn(ways, seconds)]
     cells = [f"{taken:.0f} ns" if way else "" for way, taken in zip(ways, times)]
     if pygit2 is not None:
         cells[:2] = [f"{cell} ({taken / times[2]:.2f})" for cell, taken in zip(cells, times[:2])]
@@ -94,7 +95,7 @@ def lookups(path, kind, rounds):
     print(f"| {name} | {int(lines):,} | {kind} | {' | '.join(cells)} |", flush=True)
 
 
-def stream(folder, entries, different, program, rounds):
+def stream(folder, entries, different, program, seconds):
     """A row: a million contacts of which some are different, by a mailmap."""
     text, rng = mailmap_of(entries), random.Random(1)
     people = [b"Some Person %d <o%d@example.org>\n" % (n, n) for n in range(different)]
@@ -116,28 +117,29 @@ def stream(folder, entries, different, program, rounds):
 
     of_str = partial(of_file, "r", encoding="utf-8", errors="surrogateescape")
     texts = [line.decode() for line in lines]
-    ways = [partial(of_list, lines), partial(of_list, texts), partial(of_file, "rb"), of_str]
-    ways += [run] if program else []
     with Mailmap(text) as mailmap:
-        times = in_turn(ways, rounds)
-    cells = [f"{taken:.3f} s ({taken / times[-1]:.2f})" if program else f"{taken:.3f} s" for taken in times]
-    print(f"| {entries:,} | {different:,} | {' | '.join(cells)} |", flush=True)
+        ways = [partial(of_list, lines), partial(of_list, texts), partial(of_file, "rb"), of_str, run]
+        times = in_turn(ways, seconds)
+    cells = [f"{taken:.3f} s ({taken / times[-1]:.2f})" for taken in times[:-1]]
+    print(f"| {entries:,} | {different:,} | {' | '.join(cells)} | {times[-1]:.3f} s |", flush=True)
+
+
+def head(words, numbers):
+    print(f"| {' | '.join(words + numbers)} |\n| {' | '.join(['---'] * len(words) + ['--:'] * len(numbers))} |")
 
 
 def main():
-    program = sys.argv[1] if sys.argv[1:] else None
-    rounds = int(sys.argv[2]) if sys.argv[2:] else 20
-    with tempfile.TemporaryDirectory() as name:
-        folder = Path(name)
-        subprocess.run([sys.executable, MAKE_MAPS, folder, "1000", "100000"], stdout=subprocess.DEVNULL, check=True)
-        print("| map | lines | contacts | lookup of `str` | lookup of bytes | pygit2 | dulwich |")
-        for name in ("mixed-1000", "sorted-1000", "mixed-100000", "sorted-100000"):
-            for kind in ("hits", "misses"):
-                lookups(folder / f"{name}.mailmap", kind, rounds)
-        columns = ["entries", "different", "a list of bytes", "a list of `str`", "a file of bytes", "a file of `str`"]
-        print(f"\n| {' | '.join(columns + ['the program'] * bool(program))} |")
+    program, maps, seconds = sys.argv[1], Path(sys.argv[2]), float(sys.argv[3])
+    head(["map", "lines", "contacts"], ["`lookup` of `str`", "`lookup` of bytes", "pygit2", "dulwich"])
+    for name in ("mixed-1000", "sorted-1000", "mixed-100000", "sorted-100000"):
+        for kind in ("hits", "misses") if (maps / f"{name}.mailmap").exists() else []:
+            lookups(maps / f"{name}.mailmap", kind, seconds)
+    print()
+    columns = ["a list of bytes", "a list of `str`", "a file of bytes", "a file of `str`", "mailmap_check"]
+    head(["entries", "contacts that differ"], columns)
+    with tempfile.TemporaryDirectory() as folder:
         for entries, different in ((10_000, 3_000), (100_000, 3_000), (10_000, CONTACTS)):
-            stream(folder, entries, different, program, rounds)
+            stream(Path(folder), entries, different, program, seconds)
 
 
 main()
