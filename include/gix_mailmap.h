@@ -306,17 +306,18 @@ gix_mailmap_status gix_mailmap_unneeded(const gix_mailmap_named *mailmaps, size_
     GIX_MAILMAP_NONNULL(7) GIX_MAILMAP_MUST_CHECK;
 
 /* Writes the lines that some mailmaps lack for contacts, as mailmap_verify --suggest prints them: for each group of
- * contacts whose answers share an email or a name and differ, how often each answer comes, and lines that give all of
- * them one answer, such as
+ * contacts that may be one person, how often each answer comes, and lines that give all of them one answer, such as
  *
  *     # 3 Jane Doe <jane@x>
  *     # 2 jane <jane@x>
  *     Jane Doe <jane@x>
  *
- * and an empty line. `#?` begins the lines for a group that shares only a name, since these may be two people: whoever
- * deletes the `#?` accepts the line. The text is a mailmap, to be appended to the last one. If that is not empty and
- * does not end with a line feed, the text begins with one. `contacts` has a contact on each line. Mailmaps are as for
- * gix_mailmap_report; their names are not read. `needed` is the length of the text, and 0 on OUT_OF_MEMORY.
+ * and an empty line. In a group the answers have one email, or equal or alike names, or one has the name that is the
+ * login in the other one's email. `#?` begins the lines for a group without one email, since these may be two people:
+ * whoever deletes the `#?` accepts the line. An email that several people share has comments and no lines. The text is
+ * a mailmap, to be appended to the last one: if that isn't empty and doesn't end with a line feed, the text, if there
+ * is any, begins with one. `contacts` has a contact on each line. Mailmaps are as for gix_mailmap_report; their names
+ * are not read. `needed` is the length of the text, and 0 on OUT_OF_MEMORY.
  * OK; TOO_SHORT; OUT_OF_MEMORY. */
 gix_mailmap_status gix_mailmap_suggest(const gix_mailmap_named *mailmaps, size_t count, const char *contacts,
                                        size_t contacts_len, char *GIX_MAILMAP_RESTRICT out, size_t out_len,

@@ -46,6 +46,8 @@ PARTS = {
     "edges": ("runs programs on odd arguments, paths and streams", f"tests/edges/run.py {CHECK} {VERIFY} {SHORTLOG}"),
     "verify": ("compares mailmap_verify with a model", f"tests/verify/run.py {VERIFY}"),
     "suggest": ("compares suggested lines with two models and git", f"tests/suggest/run.py {VERIFY} {SHORTLOG}"),
+    "accepted": ("appends suggested lines, and asks what git answers then",
+                 f"tests/suggest/accepted.py {VERIFY} {CHECK}"),
     "shortlog": ("compares mailmap_shortlog with a model and git", f"tests/shortlog/run.py {SHORTLOG}"),
     "failures": ("runs programs when files, streams or memory fail", f"tests/failures.sh {CHECK} {VERIFY} {SHORTLOG}"),
     "refusals": ("refuses each request for memory of the programs in turn",

@@ -2,9 +2,9 @@
 # cases.sh: remakes the stored cases and compares them with the stored files.
 # cases.sh SEED: makes new ones from this seed.
 #
-# The findings and counts come from the model in tests/model. The cases of tests/original come from the Rust original,
-# for which tests/original/oracle.sh builds a program. ORACLE_OPTIONS are options for cargo, such as where a copy of the
-# original is.
+# The findings, suggestions and counts come from the model in tests/model. The cases of tests/original come from the
+# Rust original, for which tests/original/oracle.sh builds a program. ORACLE_OPTIONS are options for cargo, such as
+# where a copy of the original is.
 set -euo pipefail
 cd "$(dirname "$0")"
 status=0

@@ -17,7 +17,7 @@ from refusing import Refusing
 # Each is refused. `entries` never reports it, rightly, because its collect retries with less.
 CALLS = """New FromBytes TryClone Write Merge MergeFew MergeOne FirstSource ThirdSource TryResolve Resolve
 ResolveNothing ResolveCow SignatureTryClone FromCow Check Stream Compact NewStream Push FinishLine Verify ReadMailmaps Verification
-Explanations Prune Unneeded CountContacts Suggest OtherGitAnswers PushEntry PushCount""".split()
+Explanations Prune Unneeded CountContacts Suggest ContactFindings PushEntry PushCount""".split()
 # Calls that don't allocate are made between these allocations of the program. So these are requests that follow each
 # other: first around the calls that accept or write nothing, and then around the others.
 IN_TURN = ["AheadOfNothing", "AfterNothing", "AfterAll"]

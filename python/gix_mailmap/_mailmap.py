@@ -227,9 +227,10 @@ def unneeded(mailmaps: Iterable[tuple[AnyText, AnyText]], contacts: AnyText) -> 
 
 @of_mailmaps
 def suggest(mailmaps: Iterable[tuple[Any, Any]], contacts: Any) -> Union[str, bytes]:
-    """The lines that mailmaps lack for contacts, as `mailmap_verify --suggest` prints them: where answers that differ
-    share an email or a name, how often each comes, and lines that make them one. `#?` begins those for a shared name.
-    If the last mailmap isn't empty and doesn't end with a line feed, the text begins with one, so it can be appended.
+    """The lines that mailmaps lack for contacts, as `mailmap_verify --suggest` prints them: where contacts may be one
+    person, how often each of their answers comes, and lines that make these one. `#?` begins those for answers that
+    have no email in common. To be appended to the last mailmap: if that needs a line feed first, the text begins with
+    one.
 
     >>> print(suggest([("own", "<jane@x> <jd@y>\\n")], "Jane <jane@x>\\njd <jd@y>\\nJane <jane@x>"), end="")
     # 2 Jane <jane@x>

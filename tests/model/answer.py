@@ -5,6 +5,7 @@
     answer.py verify --prune [FILE]
     answer.py verify --explain [FILE..]
     answer.py verify --contacts CONTACTS [FILE..]
+    answer.py verify --suggest CONTACTS [FILE..]
     answer.py shortlog [-n] [-e] [FILE..]            what mailmap_shortlog prints
 
 Files, standard input and the status are as for the programs. There are no other options here, and if a file can't be
@@ -18,6 +19,7 @@ sys.dont_write_bytecode = True
 from contacts import explain, verify_contacts
 from findings import prune, verify
 from shortlog import shortlog, skipped
+from suggest import suggest
 
 STANDARD_INPUT = b"<stdin>"
 DEFAULT = ".mailmap"
@@ -60,6 +62,12 @@ def shortlogged(words):
     return 0, shortlog(buffers, contacts, "-n" in options, "-e" in options), skipped(contacts)
 
 
+def suggested(contacts, paths):
+    text = sys.stdin.buffer.read() if contacts == "-" else Path(contacts).read_bytes()
+    buffers, _ = all_or_default(paths)
+    return 0, suggest(buffers, text), b""
+
+
 def answered(words):
     """The status, the output, and the text on standard error."""
     match words:
@@ -69,6 +77,8 @@ def answered(words):
             return 0, explain(*all_of(paths), sys.stdin.buffer.read()), b""
         case ["verify", "--contacts", contacts, *paths]:
             return verified_contacts(contacts, paths)
+        case ["verify", "--suggest", contacts, *paths]:
+            return suggested(contacts, paths)
         case ["verify", *paths]:
             return *verify(*mailmaps_of(paths or [DEFAULT])), b""
         case ["shortlog", *words]:

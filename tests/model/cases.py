@@ -1,22 +1,26 @@
 #!/usr/bin/env python3
-"""Makes the stored cases of tests/verify and of tests/shortlog, or checks them.
+"""Makes the stored cases of tests/verify, tests/suggest and tests/shortlog, or checks them.
 
     cases.py             makes them again with the seed that is stored beside this file
     cases.py SEED        makes them with another seed, and stores that
     cases.py --check     writes nothing, and fails if a stored case isn't the one that the stored seed makes
 
-The seed makes up the mailmaps and contacts (buffers.py), and the answers are the model's.
+The seed makes up the mailmaps and contacts (buffers.py, people.py), and the answers are the model's.
 """
 import json
 import sys
+from collections.abc import Callable
 from pathlib import Path
+from typing import NamedTuple
 
 sys.dont_write_bytecode = True
 from buffers import Writer
 from contacts import explain, verify_contacts
 from findings import prune, verify
 from mailmap import lines
+from people import PeopleWriter
 from shortlog import shortlog
+from suggest import suggest
 
 TESTS = Path(__file__).resolve().parent.parent
 SEED = Path(__file__).with_name("seed")
@@ -61,24 +65,47 @@ def shortlog_case(writer, count):
     return {"files": hexed(files), "contacts": contacts.hex(), "shortlog": hexed(printed)}
 
 
+def suggested_case(writer, count):
+    """In some cases the last mailmap has what was suggested before, as somebody judged it."""
+    files, contacts = [writer.mailmap() for _ in range(count)], writer.contacts()
+    if files and writer.choices.chance(0.5):
+        files[-1] += writer.judged(suggest(files, contacts))
+        contacts += writer.contacts() if writer.choices.chance(0.3) else b""
+    status, printed = verify_contacts(files, names_of(files), contacts, b"c")
+    return {
+        "files": hexed(files), "contacts": contacts.hex(), "suggest": suggest(files, contacts).hex(),
+        "with_contacts": [status, printed.hex()],
+    }
+
+
 # ---- the files
 
-# how each is made, the share of long lines, and how many cases have one mailmap, two and three
+class Made(NamedTuple):
+    """How a file is made: its writer, each case, the share of long lines, and how many cases have no mailmap, one, two
+    and three.
+    """
+    writer: type
+    case: Callable
+    long: float
+    counts: list
+
+
 FILES = {
-    "verify/cases.jsonl": (verified_case, 0, [240, 72, 88]),
-    "verify/git.jsonl": (verified_case, 0.022, [230, 78, 92]),
-    "verify/explained.jsonl": (explained_case, 0.022, [230, 78, 92]),
-    "shortlog/cases.jsonl": (shortlog_case, 0.005, [230, 78, 92]),
+    "verify/cases.jsonl": Made(Writer, verified_case, 0, [0, 240, 72, 88]),
+    "verify/git.jsonl": Made(Writer, verified_case, 0.022, [0, 230, 78, 92]),
+    "verify/explained.jsonl": Made(Writer, explained_case, 0.022, [0, 230, 78, 92]),
+    "suggest/made.jsonl": Made(PeopleWriter, suggested_case, 0.01, [140, 340, 90, 30]),
+    "shortlog/cases.jsonl": Made(Writer, shortlog_case, 0.005, [0, 230, 78, 92]),
 }
 
 
 def made(file, seed):
     """The lines of a file. Each case has a seed of its own, so that adding a case doesn't change others."""
-    make, long, counts = FILES[file]
-    for size, count in enumerate(counts, 1):
+    how = FILES[file]
+    for size, count in enumerate(how.counts):
         for number in range(1, count + 1):
-            writer = Writer(f"{seed} {file} {size} {number}", long)
-            yield json.dumps(make(writer, size)).encode("ascii") + b"\n"
+            writer = how.writer(f"{seed} {file} {size} {number}", how.long)
+            yield json.dumps(how.case(writer, size)).encode("ascii") + b"\n"
 
 
 def check(seed):

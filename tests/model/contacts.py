@@ -1,18 +1,17 @@
 """The model of `mailmap_verify --explain` and `--contacts`.
 
 The definitions are in `specs` of `mailmap_redundancy` (`Origins`), `mailmap_findings` (`Explanations`, `Needs`,
-`Remarks`), `contact_counter` (`Contacts`), `mailmap_contacts` (`Proper`, `Comparisons`), `mailmap_suggestions`
-(`Counted`) and `mailmap_report` (`Explained`, `Report`).
+`Remarks`), `contact_counter` (`Contacts`), `mailmap_contacts` (`Proper`, `Comparisons`), `mailmap_suggestions` and
+`mailmap_report` (`Explained`, `Report`).
 """
-from typing import NamedTuple
-
 from findings import (
     Mailmaps, behind, contact_text, error, findings, note, origins, position_text, positions_text, short_contact_text,
     warning
 )
 from git import git_answer, git_entries_of
-from mailmap import answer, contact_of, folded, lines, new_fields, trim
-from shown import shown
+from mailmap import answer, contact_of, lines, new_fields, trim
+from shown import shortened, shown
+from suggest import BY_EMAIL, is_remembered, proper, suggested_blocks, tallied, tallies_of
 
 
 # ---- --explain
@@ -45,39 +44,43 @@ def needed(mailmaps, contacts):
     }
 
 
-class Answer(NamedTuple):
-    """A distinct answer to contacts, how often it comes, and its first line."""
-    name: bytes
-    email: bytes
-    count: int
-    line: int
-
-    def text(self):
-        return b"%b (%d)" % (short_contact_text(self.name, self.email), self.count)
+def counted(one):
+    return b"%b (%d)" % (short_contact_text(*one.contact), one.count)
 
 
-def answers_of(mailmaps, contacts):
-    """The distinct answers to contacts, given with their lines."""
-    seen = {}
-    for number, contact in contacts:
-        seen.setdefault(answer(mailmaps.merged, *contact), []).append(number)
-    return [Answer(*key, len(numbers), numbers[0]) for key, numbers in seen.items()]
+def answers_in(block, answers):
+    """The answers of a block that are answers by the mailmaps alone, in the order in which they first come."""
+    members = [one.contact for one in block.answers]
+    return [one for one in answers if one.contact in members]
 
 
-def proper(group):
-    """Of those with a name, or of all, the one that comes most often; of several of these the first one."""
-    return min(group, key=lambda one: (not one.name, -one.count, one.line))
+def said_of_shared_email(block, answers):
+    members = answers_in(block, answers)
+    count = sum(one.count for one in members)
+    words = b"%b is the email of several people (%d)" % (shortened(members[0].email), count)
+    return [(members[0].line, note(words, b"shared-email"))]
 
 
-def compared(answers, field):
-    """Pairs of answers and proper ones that share a field, and the answers that are proper."""
-    groups = {}
-    for one in answers:
-        if folded(one[field]):
-            groups.setdefault(folded(one[field]), []).append(one)
-    best = [proper(group) for group in groups.values()]
-    pairs = [(one, proper(group)) for group in groups.values() for one in group if one != proper(group)]
-    return pairs, best
+def said_of_others(block, answers):
+    """Each answer that isn't the proper one of its block, beside that one. Only where git reads lines otherwise can the
+    proper one be no answer by the mailmaps alone: then nothing is said.
+    """
+    members = answers_in(block, answers)
+    best = [one for one in answers if one.contact == block.proper]
+    if block.stage == BY_EMAIL:
+        level, words, kind = warning, b"has the email of", b"same-email"
+    elif block.heads:
+        level, words, kind = note, b"has a name like", b"similar-name"
+    else:
+        # the proper one by the counts that are shown
+        level, words, kind, best = note, b"has the name of", b"same-name", [proper(members)] if members else []
+    pairs = [(one, of) for of in best for one in members if one != of]
+    return [(one.line, level(b"%b %b %b" % (counted(one), words, counted(of)), kind)) for one, of in pairs]
+
+
+def said_of_block(block, answers):
+    is_of_shared_email = block.stage == BY_EMAIL and block.heads
+    return (said_of_shared_email if is_of_shared_email else said_of_others)(block, answers)
 
 
 def other_git_answers(mailmaps, gits, contacts):
@@ -90,29 +93,30 @@ def other_git_answers(mailmaps, gits, contacts):
             yield number, git_answer(gits, *contact)
 
 
-def said_of_contacts(mailmaps, gits, text, file):
-    """The findings about contacts, line by line, each with whether it counts for the status."""
+# what is said on a line is in this order
+ORDER = b"no-contact", b"same-email", b"shared-email", b"same-name", b"similar-name", b"git-answers"
+
+
+def place(said):
+    number, words = said
+    return number, [words.endswith(b" [%b]" % kind) for kind in ORDER].index(True)
+
+
+def said_of_contacts(mailmaps, buffers, text):
+    """The findings about contacts, line by line."""
     numbered = [(number, contact_of(line), line) for number, line in enumerate(lines(text), 1)]
     no_contact = error(b"no contact", b"no-contact")
-    said = [(number, True, no_contact) for number, contact, line in numbered if not contact and trim(line)]
+    said = [(number, no_contact) for number, contact, line in numbered if not contact and trim(line)]
+    tallies = tallies_of(text)
+    answers = tallied((answer(mailmaps.merged, *one.contact), one.count, one.line) for one in tallies)
+    for block in suggested_blocks(buffers, tallies):
+        said += [] if is_remembered(buffers, block) else said_of_block(block, answers)
     contacts = [(number, contact) for number, contact, _ in numbered if contact]
-    by_email, best = compared([one for one in answers_of(mailmaps, contacts) if one.email], 1)
-    by_name, _ = compared(best, 0)
     said += [
-        (one.line, True, warning(b"%b has the email of %b" % (one.text(), of.text()), b"same-email"))
-        for one, of in by_email
+        (number, warning(b"git answers " + short_contact_text(*other), b"git-answers"))
+        for number, other in other_git_answers(mailmaps, git_entries_of(buffers), contacts)
     ]
-    # they may be two people
-    said += [
-        (one.line, False, note(b"%b has the name of %b" % (one.text(), of.text()), b"same-name")) for one, of in by_name
-    ]
-    said += [
-        (number, True, warning(b"git answers " + short_contact_text(*other), b"git-answers"))
-        for number, other in other_git_answers(mailmaps, gits, contacts)
-    ]
-    # what git answers comes last on a line
-    said.sort(key=lambda one: one[0])
-    return [(counts, b"%b:%d: %b" % (file, number, words)) for number, counts, words in said]
+    return sorted(said, key=place)
 
 
 def verify_contacts(buffers, names, contacts, file):
@@ -125,5 +129,8 @@ def verify_contacts(buffers, names, contacts, file):
         if mailmaps.has_effect(line.position) and line.position not in some_need:
             remarks.append(warning(b"no contact needs it", b"unneeded"))
         said += [(True, position_text(names, line.position) + b": " + remark) for remark in remarks]
-    said += said_of_contacts(mailmaps, git_entries_of(buffers), contacts, file)
+    said += [
+        (not words.startswith(b"note"), b"%b:%d: %b" % (file, number, words))
+        for number, words in said_of_contacts(mailmaps, buffers, contacts)
+    ]
     return (1 if any(counts for counts, _ in said) else 0), b"".join(shown(text) for _, text in said)

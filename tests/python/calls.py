@@ -168,10 +168,10 @@ class Texts(unittest.TestCase):
                 of_str = [("", text.decode(errors="surrogateescape")) for text in texts]
                 said = gix_mailmap.suggest(of_str, contacts.decode(errors="surrogateescape"))
                 self.assertEqual(said.encode(errors="surrogateescape"), suggested)
-        contacts = b"".join(b"a <%d@x>\nb%d <%d@x>\nb%d <%d@x>\n" % ((number,) * 5) for number in range(1000))
+        contacts = b"".join(b"a%d <%d@x>\nb%d <%d@x>\nb%d <%d@x>\n" % ((number,) * 6) for number in range(1000))
         many = gix_mailmap.suggest([], contacts)
         self.assertEqual(many.count(b"\n\n"), 1000)
-        self.assertTrue(many.endswith(b"\n\n# 2 b999 <999@x>\n# 1 a <999@x>\nb999 <999@x>\n\n"))
+        self.assertTrue(many.endswith(b"\n\n# 2 b999 <999@x>\n# 1 a999 <999@x>\nb999 <999@x>\n\n"))
         with self.assertRaises(TypeError):
             gix_mailmap.suggest([("", "")], b"a <b>")
 

@@ -3,12 +3,14 @@
 
     run.py MAILMAP_VERIFY MAILMAP_SHORTLOG
 
-A line of cases.jsonl is a case: its mailmaps, which become the files m1, m2 and so on, its contacts, which become the
-file c, what `--suggest` prints, and the findings about contacts that `--contacts` prints. Texts are in hex. The cases
-come from a model that tries each question on whole lists of entries. tests/model has another such model, written from
-the definitions in specs, which has to give the same and which makes further cases here.
+A line of cases.jsonl and of small.jsonl is a case: its mailmaps, which become the files m1, m2 and so on, its contacts,
+which become the file c, what `--suggest` prints, and the findings about contacts that `--contacts` prints. Texts are in
+hex. They come from a model that tries each question on whole lists of entries. tests/model has another such model,
+written from the definitions in specs, which has to give the same. `make cases` makes made.jsonl with it, where a case
+has the status and the output of `--contacts`, and it answers further cases here, with stranger texts.
 
-If git is installed, suggestions are made for a repository of 3,000 commits, and git has to answer as promised.
+Large histories (large.py) have lines that follow from how they are made. If git is installed, suggestions are made for
+a repository of 3,000 commits, and git has to answer as promised.
 """
 import json
 import os
@@ -22,16 +24,13 @@ sys.path += [str(TESTS), str(TESTS / "model")]
 import runs
 from buffers import Writer
 from history import History
+from large import large
 from repository import has_git
 from runs import run, wants
 from suggest import suggest
 
-STORED = Path(__file__).with_name("cases.jsonl")
-MADE = 200
-
-
-def files_of(case):
-    return [bytes.fromhex(file) for file in case["files"]]
+STRANGER = 200
+FEW, MANY = 12, 50_000
 
 
 def written(files, contacts):
@@ -59,22 +58,46 @@ def wants_findings(program, what, files, contacts, found):
         for number, level, kind, words in found))
 
 
-def stored(program):
-    cases = [json.loads(line) for line in STORED.open(encoding="ascii")]
-    for number, case in enumerate(cases, 1):
-        files, contacts, printed = files_of(case), bytes.fromhex(case["contacts"]), bytes.fromhex(case["suggest"])
+def cases_of(file):
+    """The mailmaps and the contacts of each case, what is suggested, and all that is stored."""
+    for line in Path(__file__).with_name(file).open(encoding="ascii"):
+        case = json.loads(line)
+        contacts, printed = bytes.fromhex(case["contacts"]), bytes.fromhex(case["suggest"])
+        yield [bytes.fromhex(text) for text in case["files"]], contacts, printed, case
+
+
+def of_other_model(program):
+    cases = [*cases_of("cases.jsonl"), *cases_of("small.jsonl")]
+    for number, (files, contacts, printed, case) in enumerate(cases, 1):
         wants(f"case {number} of the other model", (0, suggest(files, contacts), b""), 0, printed)
         wants_suggestions(program, f"case {number}", files, contacts, printed)
         wants_findings(program, f"findings of case {number}", files, contacts, case["findings"])
     return len(cases)
 
 
-def made(program):
+def of_seed(program):
+    cases = list(cases_of("made.jsonl"))
+    for number, (files, contacts, printed, case) in enumerate(cases, 1):
+        wants_suggestions(program, f"made.jsonl:{number}", files, contacts, printed)
+        status, report = case["with_contacts"]
+        found = run(program, ["--contacts", "c", *written(files, contacts)])
+        wants(f"findings of made.jsonl:{number}", found, status, bytes.fromhex(report))
+    return len(cases)
+
+
+def stranger(program):
     """More cases, with stranger texts."""
-    for number in range(MADE):
+    for number in range(STRANGER):
         writer = Writer(f"suggest {number}", 0.01)
         files, contacts = [writer.mailmap() for _ in range(number % 3)], writer.contacts()
-        wants_suggestions(program, f"made case {number}", files, contacts, suggest(files, contacts))
+        wants_suggestions(program, f"stranger case {number}", files, contacts, suggest(files, contacts))
+
+
+def in_large_histories(program):
+    for what, mailmap, contacts, printed in large(FEW):
+        wants(f"{what}, in the model", (0, suggest([mailmap], contacts), b""), 0, printed)
+    for what, mailmap, contacts, printed in large(MANY):
+        wants_suggestions(program, what, [mailmap], contacts, printed)
 
 
 def judged(text):
@@ -83,26 +106,23 @@ def judged(text):
 
 
 def in_history(program, counter):
-    """With the suggestions appended, no two contacts of a history share an email, and git has the same counts."""
-    # the second one has no line feed at its end
-    for what, mailmap in ("no mailmap", b""), ("a mailmap", History.MAILMAP.removesuffix(b"\n")):
+    """With the suggestions appended, no two answers differ that have one email, and git has the same counts."""
+    for what, mailmap in ("no mailmap", b""), ("a mailmap", History.MAILMAP):
         with tempfile.TemporaryDirectory() as folder:
             history = History(Path(folder), mailmap)
             contacts = history.contacts()
             status, suggested, said = run(program, ["--suggest", "-", *history.mailmaps()], contacts)
             wants(f"{what}: suggestions", (status, suggest([mailmap], contacts), said), 0, suggested)
             history.append(suggested)
-            wants_only_names(program, f"{what}: findings", history, contacts)
+            wants_only_notes(program, f"{what}: findings", history, contacts)
             wants_same_counts(counter, f"{what}: counts", history, contacts)
             history.mailmap.write_bytes(mailmap + judged(suggested))
             wants_same_counts(counter, f"{what}: counts with names united", history, contacts)
 
 
-def wants_only_names(program, what, history, contacts):
-    """Nothing is found but contacts that share a name, which doesn't count for the status."""
-    status, printed, said = run(program, ["--contacts", "-", *history.mailmaps()], contacts)
-    others = b"".join(line + b"\n" for line in printed.splitlines() if not line.endswith(b" [same-name]"))
-    wants(what, (status, others, said), 0, b"")
+def wants_only_notes(program, what, history, contacts):
+    """Nothing is found that counts for the status."""
+    wants(what, run(program, ["--contacts", "-", "-S", "warning", *history.mailmaps()], contacts), 0, b"")
 
 
 def wants_same_counts(counter, what, history, contacts):
@@ -115,13 +135,14 @@ def main():
     program, counter = (str(Path(path).resolve()) for path in sys.argv[1:])
     with tempfile.TemporaryDirectory() as folder:
         os.chdir(folder)
-        count = stored(program)
-        made(program)
+        counts = of_other_model(program), of_seed(program)
+        stranger(program)
+        in_large_histories(program)
         if has_git("suggested lines in a history"):
             in_history(program, counter)
         os.chdir("/")
     print(f"suggest: {runs.passed} passed, {runs.failed} failed")
-    sys.exit(1 if runs.failed or count != 400 else 0)
+    sys.exit(1 if runs.failed or counts != (1012, 600) else 0)
 
 
 main()

@@ -346,6 +346,17 @@ def objects(program):
          "message": text("N <q@x> (1) has the name of N <a@x> (1)"), "at": {"file": text("c"), "line": 1}},
     ]
     wants("objects of contacts", (status, [json.loads(line) for line in printed.splitlines()], said), 1, want, b"")
+    # no other line is named for a shared email
+    Path("c").write_bytes(b"Ann Lee <l@x>\nBob Roe <L@x>\nCy Doe <l@x>\nDan Poe <l@x>\n")
+    status, printed, said = run(program, ["-f", "json", "--contacts", "c"])
+    want = [{"file": text("c"), "line": 1, "level": "note", "kind": "shared-email",
+             "message": text("l@x is the email of several people (4)")}]
+    wants("an object of a shared email", (status, [json.loads(line) for line in printed.splitlines()], said), 0, want, b"")
+    Path("c").write_bytes(b"Ann Lee <a@x>\nplain\nLee, Ann <b@x>\nLee, Ann <b@x>\n")
+    status, printed, said = run(program, ["-f", "json", "-e", "no-contact", "--contacts", "c"])
+    want = [{"file": text("c"), "line": 1, "level": "note", "kind": "similar-name",
+             "message": text("Ann Lee <a@x> (1) has a name like Lee, Ann <b@x> (2)"), "at": {"file": text("c"), "line": 3}}]
+    wants("an object of a similar name", (status, [json.loads(line) for line in printed.splitlines()], said), 0, want, b"")
     Path("c").write_bytes(b"")
     Path("team").write_bytes(b"N <a@x>\n")
     status, printed, said = run(program, ["-f", "json", "--contacts", "c", "team"])

@@ -2,3 +2,4 @@ pub mod Answers
 pub mod Calls
 pub mod Pruned
 pub mod Listings
+pub mod Suggested

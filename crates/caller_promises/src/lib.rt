@@ -7,6 +7,8 @@
 //! - `rebuilding`: the entries of any snapshot rebuild it, and its text parses to an equal one.
 //! - `pruning`: the findings in a pruned mailmap; that it maps the same and no line of it can be dropped; and git's
 //!   answers.
+//! - `suggesting`: from the bytes of mailmaps and of contacts to the lines that are suggested, and to the answers with
+//!   these lines appended.
 #![tactic(auto)]
 
 pub mod answers;
@@ -14,3 +16,4 @@ pub mod calls;
 pub mod listings;
 pub mod pruning;
 pub mod rebuilding;
+pub mod suggesting;

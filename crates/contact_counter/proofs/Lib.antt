@@ -1,5 +1,6 @@
 pub mod Counting
 pub mod Entries
+pub mod LineEnds
 pub mod Steps
 pub mod Sums
 pub mod Tallied

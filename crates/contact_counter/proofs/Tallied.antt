@@ -1,6 +1,6 @@
 -- Each distinct contact of a history once, with all its occurrences.
 use Rattle.std.proofs.Common.{◌≡◌, ◌∙◌, ◌+◌, ◌<◌, ℕ, Bool, true, false, cond, Option, None, Some, List, [], ◌∷◌, Ordering, Less, ap, arith, filter, map, refl, subst, sym, unwrap_or, ⊎_elim, rules}
-use Rattle.std.specs.Prelude.{IfSome, ◌&&◌, is_some, not}
+use Rattle.std.specs.Prelude.{◌↔◌, IfSome, ◌&&◌, is_some, not}
 use Rattle.std.specs.Cmp.{IsTotalOrder}
 use Rattle.std.specs.List.{AllByRecursion, Contains, IsDistinct}
 use Rattle.std.specs.List.Sorted.{IsPermutation, IsStrictlySortedBy}
@@ -141,6 +141,17 @@ each_untallied P (t ∷ ts) all = (
   each_untallied P ts (all_weaker (tallied ts) (λ u p. ⊎_elim (λ yes. subst P (same_is t.contact u.contact yes) all.0) (λ no. p (ap not no)) (cases_Bool (same t u)))
       (all_unfiltered (λ u. not (same t u)) (λ u. P u.contact) (tallied ts) all.1)),
 )
+
+-- if what holds of all contacts of ys holds of those of xs, they are contacts of ys
+held_by : (xs ys : List Tally) → ((P : Contact → Type 0) → AllByRecursion (λ t. P t.contact) ys → AllByRecursion (λ t. P t.contact) xs) → (c : Contact)
+    → Contains (map contact_of xs) c → Contains (map contact_of ys) c
+held_by xs ys all c =
+    let P : Contact → Type 0 = Contains (map contact_of ys) in
+    All-contains P (map contact_of xs) c (All-from_recursion P (map contact_of xs) (all_mapped contact_of P xs
+    (all P (all_map contact_of P ys (recursion_from_All P (map contact_of ys) (All-contains_itself (map contact_of ys)))))))
+
+pub same_contacts : (ts : List Tally) (c : Contact) → Contains (map contact_of ts) c ↔ Contains (map contact_of (tallied ts)) c
+same_contacts ts c = (held_by ts (tallied ts) (λ P. each_untallied P ts) c, held_by (tallied ts) ts (λ P. each_tallied P ts) c)
 
 tallied_each : (ts : List Tally) → AllByRecursion (λ u. of u.contact ts ≡ Some u.seen) (tallied ts)
 tallied_each [] = tt

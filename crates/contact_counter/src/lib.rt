@@ -3,5 +3,6 @@
 #![tactic(auto)]
 
 pub mod counter;
+pub mod laws;
 pub mod occurrences;
 pub mod tallies;

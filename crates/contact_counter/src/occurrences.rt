@@ -15,7 +15,7 @@ pub struct Occurrences {
 }
 
 /// The occurrences of both together, `None` if the count exceeds its type.
-pub(crate) fn sum_of(a: Occurrences, b: Occurrences) -> Option<Occurrences>
+pub fn sum_of(a: Occurrences, b: Occurrences) -> Option<Occurrences>
     ensures { IfSome result (λ sum. sum ≡ sum_of a b) }
 {
     let count = a.count.checked_add(b.count)?;

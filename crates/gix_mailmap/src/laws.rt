@@ -1,5 +1,6 @@
 //! Laws about the definitions. These functions do nothing: each states its law in its contract.
 
+pub use mailmap_contacts::laws::{law_line_feeds, law_tallied};
 pub use mailmap_entries::laws::{law_entries, law_order, law_order_without_case};
 pub use mailmap_entries::semantics::{
     law_condense, law_equal, law_exists, law_headline, law_neighbours, law_of_email, law_one_email,
@@ -23,6 +24,7 @@ pub use mailmap_snapshot::laws::{
     law_lines, law_parts, law_stream, law_strict, law_text, law_time,
 };
 pub use mailmap_suggestions::laws::{
-    law_exact, law_linked, law_others_stay, law_read_alike, law_suggested_lines,
+    law_each_needed, law_exact, law_linked, law_no_zero, law_others_stay, law_proper_answer,
+    law_read_alike, law_selected, law_selected_alone, law_selected_together, law_suggested_lines,
     law_suggested_text, law_suggestions, law_text_after,
 };

@@ -1,14 +1,9 @@
 -- Calls on several mailmaps, whose names and texts are in two buffers.
 use Rattle.std.specs.Prelude.{◌≡◌, ℕ, List, [], ◌∷◌, drop, map, take}
-use Rattle.mailmap_contacts.specs.Contacts.{contacts_from, tallied}
 use Rattle.mailmap_entries.specs.Folding.{Text}
 use Rattle.mailmap_findings.specs.Findings.{AreFindings, Finding}
 use Rattle.mailmap_findings.specs.Needs.{AreUnneeded}
-use Rattle.mailmap_findings.specs.Positions.{whole_lines}
 use Rattle.mailmap_redundancy.specs.declared.located.Position as library
-use Rattle.mailmap_suggestions.specs.Histories.{histories_of}
-use Rattle.mailmap_suggestions.specs.SuggestedText.{printed}
-use Rattle.mailmap_suggestions.specs.Suggestions.{suggestions}
 use Rattle.mailmap_report.specs.Report.{report}
 use Rattle.mailmap_report.specs.Settings.{no_choices}
 use Rattle.gix_mailmap_c.specs.declared.several.Lengths.{Lengths}
@@ -39,8 +34,3 @@ pub record AreUnneededOf (mailmaps : List Text) (contacts : Text) (listed : List
   pub found : List library.Position
   pub whole : AreUnneeded mailmaps contacts found
   pub each : listed ≡ map c_position found
-
--- what is suggested beside these mailmaps for the contacts, one on each line, to be appended to the last mailmap
-unfoldable pub suggested_for : List Text → Text → Text
-suggested_for mailmaps contacts =
-    printed mailmaps (suggestions (histories_of mailmaps) (tallied (contacts_from 1 (whole_lines contacts))))

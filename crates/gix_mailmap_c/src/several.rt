@@ -1,12 +1,12 @@
 //! Calls that take the texts of several mailmaps, one after another in a buffer, and keep nothing.
-ghost use Rattle.std.specs.Prelude.{◌≡◌, IfOk, Some, map};
+ghost use Rattle.std.specs.Prelude.{◌≡◌, IfOk, List, Some, map};
 ghost use Rattle.mailmap_contacts.specs.Counts.{AreContactsOf};
+ghost use Rattle.mailmap_entries.specs.Folding.{Text};
 ghost use Rattle.mailmap_findings.specs.Positions.{whole_lines};
-ghost use Rattle.mailmap_suggestions.specs.SuggestedText.{printed};
-ghost use Rattle.mailmap_suggestions.specs.Views.{suggestion_of};
+ghost use Rattle.mailmap_suggestions.specs.Printed.{IsSuggested};
 ghost use Rattle.mailmap_report.specs.Explained.{ExplainsAll, each_line, explained_line};
 ghost use Rattle.gix_mailmap_c.specs.Buffers.{IsOutput};
-ghost use Rattle.gix_mailmap_c.specs.Several.{c_position, names_in, suggested_for, texts_in};
+ghost use Rattle.gix_mailmap_c.specs.Several.{c_position, names_in, texts_in};
 ghost use Rattle.gix_mailmap_c.specs.Several.{AreUnneededOf, IsReportOf};
 
 use crate::buffers::hand;
@@ -17,8 +17,9 @@ use mailmap_findings::{needs, verify};
 use mailmap_report::explanation::Explainer;
 use mailmap_report::pieces::{self, FindingPieces};
 use mailmap_report::settings::Settings;
-use mailmap_suggestions::suggestions::{Suggestion, suggest};
-use mailmap_suggestions::text::{feed_after, push_suggestion};
+use mailmap_report::suggested::SuggestionPieces;
+use mailmap_suggestions::suggestions::suggest;
+use mailmap_suggestions::text::feed_after;
 use std::alloc::{AllocError, Global};
 
 type Made<T> = Result<Vec<T>, AllocError>;
@@ -164,8 +165,7 @@ fn positions(alloc: Global, found: &[verify::Position]) -> Made<Position>
     found.iter().map(of).collect(alloc)
 }
 
-/// Writes the lines that several mailmaps lack for the contacts of a history, as [`suggest`] suggests them. They can be
-/// appended to the last mailmap: if it lacks a line feed at its end, one comes first.
+/// Writes the lines that several mailmaps lack for the contacts of a history, as [`suggest`] suggests them.
 ///
 /// Takes texts and returns what [`gix_mailmap_text_report`] does. The lengths of names aren't used.
 #[unsafe(no_mangle)]
@@ -177,19 +177,30 @@ pub extern "C" fn gix_mailmap_text_suggest(
     out: &mut [u8],
     needed: &mut usize,
 ) -> u32
-    ensures { IsOutput (λ text. text ≡ suggested_for (texts_in lengths.now texts.now) contacts.now)
+    ensures { IsOutput (IsSuggested (texts_in lengths.now texts.now) (whole_lines contacts.now))
         out.old out.new needed.new result }
 {
     hand(suggested(alloc, lengths, texts, contacts), out, needed)
 }
 
 fn suggested(alloc: Global, lengths: &[Lengths], texts: &[u8], contacts: &[u8]) -> Made<u8>
-    ensures { IfOk result (λ text. text.items ≡ suggested_for (texts_in lengths.now texts.now) contacts.now) }
+    ensures { IfOk result (λ text. IsSuggested (texts_in lengths.now texts.now) (whole_lines contacts.now) text.items) }
 {
     let buffers = texts_of(alloc, lengths, texts)?;
     let counted = counted_in(alloc, contacts)?;
-    let suggestions = suggest(alloc, buffers.as_slice(), &counted)?;
-    text_of(alloc, buffers.as_slice(), suggestions.as_slice())
+    suggested_by(alloc, buffers.as_slice(), &counted)
+}
+
+fn suggested_by(alloc: Global, buffers: &[&[u8]], counted: &Contacts) -> Made<u8>
+    ensures { (lines : List Text) → AreContactsOf lines counted.now
+        → IfOk result (λ text. IsSuggested (map (λ b. b.now) buffers.now) lines text.items) }
+{
+    let suggestions = suggest(alloc, buffers, counted)?;
+    let pieces = SuggestionPieces {
+        start: feed_after(buffers),
+        suggestions: suggestions.as_slice().iter(),
+    };
+    pieces::text_of(alloc, pieces)
 }
 
 fn counted_in(alloc: Global, contacts: &[u8]) -> Result<Contacts, AllocError>
@@ -198,20 +209,6 @@ fn counted_in(alloc: Global, contacts: &[u8]) -> Result<Contacts, AllocError>
     let mut counter = ContactCounter::new(alloc)?;
     counter.add_lines(contacts)?;
     counter.into_contacts()
-}
-
-fn text_of(alloc: Global, buffers: &[&[u8]], suggestions: &[Suggestion<'_>]) -> Made<u8>
-    ensures { IfOk result (λ text. text.items
-        ≡ printed (map (λ b. b.now) buffers.now) (map suggestion_of suggestions.now)) }
-{
-    if suggestions.is_empty() {
-        return Ok(Vec::new(alloc));
-    }
-    let mut text = Vec::from_slice(alloc, feed_after(buffers))?;
-    for suggestion in suggestions {
-        push_suggestion(&mut text, suggestion)?;
-    }
-    Ok(text)
 }
 
 fn names_of(alloc: Global, lengths: &[Lengths], names: &[u8]) -> Made<Vec<u8>>

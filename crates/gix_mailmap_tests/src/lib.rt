@@ -25,6 +25,8 @@ mod memory;
 #[cfg(test)]
 mod merging;
 #[cfg(test)]
+mod names;
+#[cfg(test)]
 mod repeats;
 #[cfg(test)]
 mod searches;
@@ -37,5 +39,7 @@ mod sources;
 mod streams;
 #[cfg(test)]
 mod strict_lines;
+#[cfg(test)]
+mod words;
 #[cfg(test)]
 mod writing;

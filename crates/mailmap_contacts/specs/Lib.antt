@@ -1,5 +1,4 @@
 pub mod Answers
-pub mod Comparisons
 pub use Rattle.contact_counter.specs.Contacts
 pub use Rattle.contact_counter.specs.Counts
 pub mod Folded

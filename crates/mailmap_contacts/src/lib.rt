@@ -1,9 +1,8 @@
-//! The contacts of a history: how often each answer to them comes, and which answers may belong to one person.
+//! The contacts of a history: which lines they need, and which of some answers is the proper one.
 #![tactic(auto)]
 
 pub mod answers;
-pub mod comparisons;
 pub mod folded;
 pub mod proper;
 
-pub use contact_counter::{counter, occurrences};
+pub use contact_counter::{counter, laws, occurrences};

@@ -3,3 +3,4 @@ pub mod Json
 pub mod Kinds
 pub mod Report
 pub mod Settings
+pub mod Suggested

@@ -17,28 +17,12 @@ use Rattle.mailmap_report.specs.Settings.{Choices, counts, is_json, is_reported}
 use Rattle.mailmap_report.specs.declared.pieces.Piece.{Piece as the_piece}
 use Rattle.mailmap_contacts.specs.Contacts.{Tally}
 use Rattle.mailmap_snapshot.specs.Contacts.{contact_line}
-use Rattle.mailmap_contacts.specs.Comparisons.{ContactFinding, first_line_of, git_answers, no_contact, same_email, same_name}
+use Rattle.mailmap_suggestions.specs.ContactFindings.{ContactFinding, first_line_of, git_answers, is_like, no_contact, shared_email}
+use Rattle.mailmap_suggestions.specs.declared.findings.Likeness.{Likeness}
+use Rattle.mailmap_suggestions.specs.declared.findings.Likeness.TheVariants.{AlikeName, Email, Login, Name}
+pub use Rattle.mailmap_suggestions.specs.Shortened.{front_len, short_contact, shortened}
 use Rattle.mailmap_findings.specs.Remarks.{Remark, found as remark_found, unneeded as remark_unneeded}
 use Rattle.mailmap_report.specs.declared.kinds.Kind.TheVariants as kind
-
--- ---- long texts, which are cut, so that a report stays short however often they come
-
--- a character begins so many bytes before the end of the first 256, and goes beyond them
-abbrev pub crosses : ℕ → Text → Bool
-crosses back text =
-    is_some (decoded (drop (256 - back) text)).char && nat_lt back (decoded (drop (256 - back) text)).size
-
--- the first 256 bytes, or up to three fewer so that no character is cut
-abbrev pub front_len : Text → ℕ
-front_len text = if crosses 1 text then 255 else if crosses 2 text then 254 else if crosses 3 text then 253 else 256
-
--- a text of more than 256 bytes is shown as its front and two dots, a shorter one whole
-unfoldable pub shortened : Text → Text
-shortened text = if nat_lt 256 (length text) then take (front_len text) text ++ codes ".." else text
-
--- a contact with its texts shortened
-abbrev pub short_contact : Text → Text → Text
-short_contact name email = contact_line (shortened name) (shortened email)
 
 -- ---- places
 
@@ -169,21 +153,30 @@ report c paths findings = text_of (report_pieces c paths findings)
 
 -- ---- findings about contacts
 
+-- how often something comes
+abbrev pub count_text : ℕ → Text
+count_text count = codes " (" ++ decimal count ++ 41 ∷ []
+
 -- an answer with its texts shortened, and how often it comes
 abbrev pub counted_contact : Tally → Text
-counted_contact a = short_contact a.contact.name a.contact.email ++ codes " (" ++ decimal a.seen.count ++ 41 ∷ []
+counted_contact a = short_contact a.contact.name a.contact.email ++ count_text a.seen.count
+
+abbrev pub likeness_text : Likeness → Text
+likeness_text Email = codes " has the email of "
+likeness_text Name = codes " has the name of "
+likeness_text AlikeName = codes " has a name like "
+likeness_text Login = codes " has a name like "
 
 -- what a finding says, without its place, its level and its kind
 abbrev pub contact_words : ContactFinding → Text
 contact_words (no_contact line) = codes "no contact"
-contact_words (same_email a p) = counted_contact a ++ codes " has the email of " ++ counted_contact p
-contact_words (same_name a p) = counted_contact a ++ codes " has the name of " ++ counted_contact p
+contact_words (shared_email email seen) = shortened email ++ codes " is the email of several people" ++ count_text seen.count
+contact_words (is_like likeness a p) = counted_contact a ++ likeness_text likeness ++ counted_contact p
 contact_words (git_answers a) = codes "git answers " ++ short_contact a.contact.name a.contact.email
 
 -- the first line with the answer that another is compared with
 abbrev pub compared_line : Text → ContactFinding → Option FileLine
-compared_line file (same_email a p) = Some (record { file = file; line = p.seen.first_line })
-compared_line file (same_name a p) = Some (record { file = file; line = p.seen.first_line })
+compared_line file (is_like likeness a p) = Some (record { file = file; line = p.seen.first_line })
 compared_line file _ = None
 
 -- `file` is the name of the file of contacts

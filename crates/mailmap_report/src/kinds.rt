@@ -1,14 +1,14 @@
 //! The kinds and the levels of findings, and their names.
 ghost use Rattle.std.specs.Prelude.{◌≡◌, ◌∷◌, ◌++◌, IfSome, OnOk, Some};
-ghost use Rattle.mailmap_contacts.specs.Answers.{finding_view};
+ghost use Rattle.mailmap_suggestions.specs.FindingViews.{finding_view};
 ghost use Rattle.mailmap_findings.specs.Findings.{kind_of};
 ghost use Rattle.mailmap_report.specs.Kinds.{contact_kind, finding_kind, kind_level, kind_name, kind_named};
-ghost use Rattle.mailmap_report.specs.Kinds.{kind_names, kinds, level_name};
+ghost use Rattle.mailmap_report.specs.Kinds.{kind_names, kinds, level_name, likeness_kind};
 ghost use Rattle.mailmap_report.specs.declared.kinds.Kind.{Kind as TheKind};
 
-use mailmap_contacts::comparisons::{ContactFinding, Shared};
 use mailmap_findings::verify::FindingKind;
 use mailmap_grammar::lines::Error;
+use mailmap_suggestions::findings::{ContactFinding, Likeness};
 use std::alloc::AllocError;
 
 /// How bad a finding is, from the least to the worst. Notes don't count for the exit status.
@@ -48,11 +48,13 @@ pub enum Kind {
     Unneeded,
     NoContact,
     SameEmail,
+    SharedEmail,
     SameName,
+    SimilarName,
     GitAnswers,
 }
 
-const KINDS: [Kind; 14] = [
+const KINDS: [Kind; 16] = [
     Kind::NoEmail,
     Kind::UnclosedEmail,
     Kind::EmptyEmail,
@@ -65,7 +67,9 @@ const KINDS: [Kind; 14] = [
     Kind::Unneeded,
     Kind::NoContact,
     Kind::SameEmail,
+    Kind::SharedEmail,
     Kind::SameName,
+    Kind::SimilarName,
     Kind::GitAnswers,
 ];
 
@@ -86,14 +90,24 @@ impl Kind {
         }
     }
 
-    pub fn of_contact_finding(finding: &ContactFinding<'_, '_>) -> Kind
+    pub fn of_contact_finding(finding: &ContactFinding<'_>) -> Kind
         ensures { result ≡ contact_kind (finding_view finding.now) }
     {
         match finding {
             ContactFinding::NoContact(_) => Kind::NoContact,
-            ContactFinding::Shares(Shared::Email, _, _) => Kind::SameEmail,
-            ContactFinding::Shares(Shared::Name, _, _) => Kind::SameName,
+            ContactFinding::SharedEmail(_, _) => Kind::SharedEmail,
+            ContactFinding::IsLike(likeness, _, _) => Kind::of_likeness(*likeness),
             ContactFinding::GitAnswers(_) => Kind::GitAnswers,
+        }
+    }
+
+    fn of_likeness(likeness: Likeness) -> Kind
+        ensures { result ≡ likeness_kind likeness }
+    {
+        match likeness {
+            Likeness::Email => Kind::SameEmail,
+            Likeness::Name => Kind::SameName,
+            Likeness::AlikeName | Likeness::Login => Kind::SimilarName,
         }
     }
 
@@ -114,7 +128,9 @@ impl Kind {
             Kind::Unneeded => "unneeded",
             Kind::NoContact => "no-contact",
             Kind::SameEmail => "same-email",
+            Kind::SharedEmail => "shared-email",
             Kind::SameName => "same-name",
+            Kind::SimilarName => "similar-name",
             Kind::GitAnswers => "git-answers",
         }
     }
@@ -141,7 +157,7 @@ impl Kind {
             | Kind::NothingToMap
             | Kind::UnclosedSecondEmail
             | Kind::NoContact => Level::Error,
-            Kind::SameName => Level::Note,
+            Kind::SharedEmail | Kind::SameName | Kind::SimilarName => Level::Note,
             _ => Level::Warning,
         }
     }

@@ -10,4 +10,4 @@ mod notice;
 pub mod pieces;
 pub mod places;
 pub mod settings;
-mod shortened;
+pub mod suggested;

@@ -12,12 +12,12 @@ ghost use Rattle.mailmap_report.specs.Report.{contact_text, cure_text, entry_tex
 ghost use Rattle.mailmap_report.specs.Report.{message_text, says_text, shortened};
 
 use crate::places::{push_position, push_positions};
-use crate::shortened::{push_short_contact, push_shortened, shortened};
 use itoa::Buffer;
 use mailmap_entries::Entry;
 use mailmap_findings::verify::{Contact, FindingKind, GitReading};
 use mailmap_grammar::lines::Error;
 use mailmap_grammar::writing::{push_email, push_name};
+use mailmap_suggestions::shortened::{push_short_contact, push_shortened, shortened};
 use std::alloc::AllocError;
 
 /// Appends what a finding says, without its place, its level and its kind.

@@ -2,23 +2,24 @@
 ghost use Rattle.std.specs.Prelude.{◌≡◌, ◌++◌, IfOk, OnOk};
 ghost use Rattle.std.specs.Option.{option_map};
 ghost use Rattle.command_line.specs.Files.{texts};
-ghost use Rattle.mailmap_contacts.specs.Answers.{finding_view, tally_of};
-ghost use Rattle.mailmap_contacts.specs.Comparisons.{first_line_of};
+ghost use Rattle.mailmap_contacts.specs.Answers.{tally_of};
 ghost use Rattle.mailmap_findings.specs.Findings.{finding_of, kind_of};
 ghost use Rattle.mailmap_findings.specs.Remarks.{remark_of};
-ghost use Rattle.mailmap_report.specs.Report.{compared_line, contact_notice, contact_words, counted_contact};
-ghost use Rattle.mailmap_report.specs.Report.{finding_notice, place_at, referred_line, remark_notice};
+ghost use Rattle.mailmap_report.specs.Report.{compared_line, contact_notice, contact_words, count_text, counted_contact};
+ghost use Rattle.mailmap_report.specs.Report.{finding_notice, likeness_text, place_at, referred_line, remark_notice};
 ghost use Rattle.mailmap_report.specs.Json.{file_line_of, notice_of};
+ghost use Rattle.mailmap_suggestions.specs.ContactFindings.{first_line_of};
+ghost use Rattle.mailmap_suggestions.specs.FindingViews.{finding_view};
 
 use crate::kinds::Kind;
 use crate::message::push_message;
 use crate::places::{Place, place_at};
-use crate::shortened::push_short_contact;
 use itoa::Buffer;
 use mailmap_contacts::answers::Tally;
-use mailmap_contacts::comparisons::{ContactFinding, Shared};
 use mailmap_findings::remarks::Remark;
 use mailmap_findings::verify::{Finding, FindingKind, Position};
+use mailmap_suggestions::findings::{ContactFinding, Likeness};
+use mailmap_suggestions::shortened::{push_short_contact, push_shortened};
 use std::alloc::{AllocError, Global};
 
 /// What is reported at a line.
@@ -75,14 +76,17 @@ pub(crate) fn remark_notice<'n>(
 /// history:5: error: no contact [no-contact]
 /// history:7: warning: jane <JANE@x> (2) has the email of Jane Doe <jane@x> (9) [same-email]
 /// history:8: note: Jane Doe <jd@y> (1) has the name of Jane Doe <jane@x> (9) [same-name]
+/// history:8: note: Doe, Jane <jd@z> (1) has a name like Jane Doe <jane@x> (9) [similar-name]
 /// history:9: warning: git answers Jane Doe <JANE@x> [git-answers]
+/// history:9: note: devnull@localhost is the email of several people (5) [shared-email]
 /// ```
 ///
-/// The numbers in brackets say how often each answer comes. Names and emails of more than 256 bytes are cut.
+/// The numbers in brackets say how often each answer comes, and each email. Names and emails of more than 256 bytes are
+/// cut.
 pub(crate) fn contact_notice<'n>(
     alloc: Global,
     file: &'n [u8],
-    finding: &ContactFinding<'_, '_>,
+    finding: &ContactFinding<'_>,
 ) -> Result<Notice<'n>, AllocError>
     ensures { IfOk result (λ notice. notice_of notice ≡ contact_notice file.now (finding_view finding.now)) }
 {
@@ -109,37 +113,36 @@ fn referred_line<'a>(names: &'a [Vec<u8>], kind: &FindingKind<'_>) -> Option<Pla
 }
 
 // The first line of what a finding is about, and that of the answer that it is compared with, if there is one.
-fn line_and_other<'a>(
-    file: &'a [u8],
-    finding: &ContactFinding<'_, '_>,
-) -> (usize, Option<Place<'a>>)
+fn line_and_other<'a>(file: &'a [u8], finding: &ContactFinding<'_>) -> (usize, Option<Place<'a>>)
     ensures line { result.0 ≡ first_line_of (finding_view finding.now) }
     ensures other { option_map file_line_of result.1 ≡ compared_line file.now (finding_view finding.now) }
 {
     match finding {
         ContactFinding::NoContact(line) => (*line, None),
+        ContactFinding::SharedEmail(_, seen) => (seen.first_line, None),
         ContactFinding::GitAnswers(answer) => (answer.seen.first_line, None),
-        ContactFinding::Shares(_, answer, proper) => {
-            let line = proper.seen.first_line;
+        ContactFinding::IsLike(_, answer, best) => {
+            let line = best.seen.first_line;
             (answer.seen.first_line, Some(Place { file, line }))
         }
     }
 }
 
 // Appends what a finding says, without its place, its level and its kind.
-fn push_contact_words(
-    text: &mut Vec<u8>,
-    finding: &ContactFinding<'_, '_>,
-) -> Result<(), AllocError>
+fn push_contact_words(text: &mut Vec<u8>, finding: &ContactFinding<'_>) -> Result<(), AllocError>
     ensures { OnOk result (text.new.items ≡ text.old.items ++ contact_words (finding_view finding.now)) }
 {
     match finding {
         ContactFinding::NoContact(_) => text.extend_from_slice(b"no contact"),
-        ContactFinding::Shares(Shared::Email, answer, proper) => {
-            push_both(text, answer, b" has the email of ", proper)
+        ContactFinding::SharedEmail(email, seen) => {
+            push_shortened(text, email)?;
+            text.extend_from_slice(b" is the email of several people")?;
+            push_count(text, seen.count)
         }
-        ContactFinding::Shares(Shared::Name, answer, proper) => {
-            push_both(text, answer, b" has the name of ", proper)
+        ContactFinding::IsLike(likeness, answer, best) => {
+            push_counted(text, answer)?;
+            text.extend_from_slice(likeness_text(*likeness))?;
+            push_counted(text, best)
         }
         ContactFinding::GitAnswers(answer) => {
             text.extend_from_slice(b"git answers ")?;
@@ -148,28 +151,30 @@ fn push_contact_words(
     }
 }
 
-fn push_both(
-    text: &mut Vec<u8>,
-    answer: &Tally<'_>,
-    words: &[u8],
-    proper: &Tally<'_>,
-) -> Result<(), AllocError>
-    ensures { OnOk result (text.new.items ≡ text.old.items
-        ++ (counted_contact (tally_of answer.now) ++ words.now ++ counted_contact (tally_of proper.now))) }
+fn likeness_text(likeness: Likeness) -> &'static [u8]
+    ensures { result.now ≡ likeness_text likeness }
 {
-    push_counted(text, answer)?;
-    text.extend_from_slice(words)?;
-    push_counted(text, proper)
+    match likeness {
+        Likeness::Email => b" has the email of ",
+        Likeness::Name => b" has the name of ",
+        Likeness::AlikeName | Likeness::Login => b" has a name like ",
+    }
 }
 
 // Appends an answer, and how often it comes.
 fn push_counted(text: &mut Vec<u8>, answer: &Tally<'_>) -> Result<(), AllocError>
     ensures { OnOk result (text.new.items ≡ text.old.items ++ counted_contact (tally_of answer.now)) }
 {
-    let mut digits = Buffer::new();
     push_short_contact(text, answer.name, answer.email)?;
+    push_count(text, answer.seen.count)
+}
+
+fn push_count(text: &mut Vec<u8>, count: usize) -> Result<(), AllocError>
+    ensures { OnOk result (text.new.items ≡ text.old.items ++ count_text count) }
+{
+    let mut digits = Buffer::new();
     text.extend_from_slice(b" (")?;
-    text.extend_from_slice(digits.format(answer.seen.count).as_bytes())?;
+    text.extend_from_slice(digits.format(count).as_bytes())?;
     text.push(b')')?;
     Ok(())
 }

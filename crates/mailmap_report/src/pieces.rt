@@ -3,20 +3,20 @@ ghost use Rattle.std.specs.Prelude.{◌≡◌, ◌++◌, IfOk, List, map};
 ghost use Rattle.std.specs.Iterator.{YieldsFirstBy};
 ghost use Rattle.std.specs.Slice.Iter.{iter_rest};
 ghost use Rattle.command_line.specs.Files.{texts};
-ghost use Rattle.mailmap_contacts.specs.Answers.{finding_view};
 ghost use Rattle.mailmap_report.specs.Json.{notice_of};
 ghost use Rattle.mailmap_report.specs.Report.{Piece as ThePiece, notice_piece, notice_text, piece_of, pieces_beside};
 ghost use Rattle.mailmap_report.specs.Report.{report_pieces, reported_text, shown_line, text_of};
 ghost use Rattle.mailmap_report.specs.Settings.{choices_of};
+ghost use Rattle.mailmap_suggestions.specs.FindingViews.{finding_view};
 
 use crate::json::object_line;
 use crate::notice::{Notice, contact_notice, finding_notice, remark_notice};
 use crate::places::push_place;
 use crate::settings::Settings;
 use command_line::shown::{may_need_escapes, push_shown};
-use mailmap_contacts::comparisons::ContactFinding;
 use mailmap_findings::remarks::Remarks;
 use mailmap_findings::verify::Findings;
+use mailmap_suggestions::findings::ContactFinding;
 use std::alloc::{AllocError, Global};
 use std::slice;
 
@@ -83,15 +83,15 @@ impl Pieces for FindingPieces<'_, '_, '_> {
 
 /// The report on mailmaps and contacts. The findings about contacts come last; `file` is the name of their file.
 #[derive(Drop)]
-pub struct PiecesBeside<'n, 'v, 'a, 'f, 'r, 'c> {
+pub struct PiecesBeside<'n, 'v, 'a, 'f, 'c> {
     pub settings: &'n Settings,
     pub names: &'n [Vec<u8>],
     pub file: &'n [u8],
     pub remarks: Remarks<'v, 'a>,
-    pub findings: slice::Iter<'f, ContactFinding<'r, 'c>>,
+    pub findings: slice::Iter<'f, ContactFinding<'c>>,
 }
 
-impl Pieces for PiecesBeside<'_, '_, '_, '_, '_, '_> {
+impl Pieces for PiecesBeside<'_, '_, '_, '_, '_> {
     ghost left = { λ s. pieces_beside (choices_of s.settings.now) (texts s.names.now) s.file.now s.remarks
         (map finding_view (iter_rest s.findings)) };
 

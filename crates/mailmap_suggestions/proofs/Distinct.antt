@@ -1,6 +1,7 @@
 -- Distinct texts, and lists that are joined from a part for each.
-use Rattle.std.proofs.Common.{◌≡◌, ◌≢◌, Bool, true, false, true≢false, not, List, [], ◌∷◌, ◌++◌, map, filter, append-nil, bytes_eq, refl, sym, ap, ◌∙◌, rules, ◌⊎◌, inl, inr, subst, ⊎_elim}
+use Rattle.std.proofs.Common.{◌≡◌, ◌≢◌, Bool, true, false, true≢false, not, List, [], ◌∷◌, ◌++◌, map, filter, append-nil, bytes_eq, if◌then◌else◌, refl, sym, ap, ◌∙◌, rules, ◌⊎◌, inl, inr, subst, ⊎_elim}
 use Rattle.std.specs.List.{AllByRecursion, flat_map, list_any}
+use Rattle.std.proofs.lemmas.Cmp.{nat_list_eq_equiv}
 use Rattle.std.proofs.lemmas.List.Elements.{filter-append}
 use Rattle.mailmap_entries.specs.Folding.{Text}
 use Rattle.mailmap_entries.proofs.Parts.{all_append, all_weaker}
@@ -23,6 +24,11 @@ all_of P f (x ∷ xs) = (f x, all_of P f xs)
 pub all_distinct : (P : Text → Type 0) (xs : List Text) → AllByRecursion P xs → AllByRecursion P (distinct xs)
 all_distinct P [] all = tt
 all_distinct P (x ∷ xs) all = (all.0, all_filtered (λ y. not (bytes_eq x y)) P P (λ y p _. p) (distinct xs) (all_distinct P xs all.1))
+
+-- one more text
+pub distinct_push : (xs : List Text) (k : Text) → distinct (xs ++ k ∷ []) ≡ distinct xs ++ (if list_any (bytes_eq k) xs then [] else k ∷ [])
+distinct_push [] k = refl
+distinct_push (x ∷ xs) k = search (rules, distinct_push xs k, filter-append, nat_list_eq_equiv.symm x k)
 
 -- the texts that aren't empty
 pub somes : (xs : List Text) → AllByRecursion (λ t. t ≢ []) (distinct (filter (λ t. not (bytes_eq t [])) xs))

@@ -16,11 +16,12 @@ use Rattle.mailmap_contacts.specs.Contacts.{Contact, Tally, answer_to, AreTallie
 use Rattle.contact_counter.specs.declared.tallies.Tally.{Tally as TheTally}
 use Rattle.mailmap_contacts.proofs.Steps.{all_filtered, HasOnly, NoneBefore}
 use Rattle.mailmap_suggestions.specs.Private.{AreChangesBy, HaveEmail, HaveOneEmail, listed, IsPart, IsPlain, are_enough, contacts_of, tallies_in, HasMembers, grouped, has_key, keyed_by, keyed_of, keys, members, text_of}
-use Rattle.mailmap_suggestions.specs.Forms.{Histories, are_answered, distinct, entries_for_email, entries_to, fits, has_own_entry, is_answered, long_form, name_unless_empty, named_entries, named_form, of_old_email, plain_entries, plus, short_form}
-use Rattle.mailmap_suggestions.specs.GroupEntries.{are_alike, contacts, group_entries, proper_answer, shared_texts, sharers, contact_or_nobody, nobody}
+use Rattle.mailmap_suggestions.specs.Forms.{Histories, are_answered, distinct, entries_for_email, entries_to, fits, is_answered, long_form, name_unless_empty, named_entries, named_form, needs_own_entry, of_old_email, plain_entries, plus, short_form}
+use Rattle.mailmap_suggestions.specs.GroupEntries.{all_entries, are_alike, are_cut, classes, contacts, contact_or_nobody, email_class, email_entries, group_entries, groups, members as class_members, nobody, proper_answer, wanted_entries}
 use Rattle.mailmap_suggestions.specs.declared.changes.Changes.{Changes}
-use Rattle.mailmap_suggestions.proofs.Distinct.{all_of, same_bytes, all_joined, all_among, somes}
-use Rattle.mailmap_suggestions.proofs.Appended.{OfPlain, each_plain, each_for_email, enough_is}
+use Rattle.mailmap_suggestions.proofs.Distinct.{all_of, distinct_push, same_bytes, all_joined, all_among, somes}
+use Rattle.mailmap_suggestions.proofs.Appended.{OfPlain, each_plain, each_for_email}
+use Rattle.mailmap_suggestions.proofs.Changed.{enough_is}
 use Rattle.mailmap_entries.specs.Semantics.{is_accepted, accepted}
 use Rattle.mailmap_findings.proofs.Readings.{located_accepted}
 use Rattle.mailmap_findings.proofs.Read.{mappings_of-located_lines}
@@ -29,8 +30,7 @@ use Rattle.mailmap_findings.specs.Positions.{located, located_lines}
 use Rattle.mailmap_grammar.specs.Lines.{mappings_of}
 use Rattle.mailmap_redundancy.specs.Redundancy.{LocatedMapping, entries, located_of}
 use Rattle.mailmap_redundancy.specs.declared.located.LocatedEntry.{LocatedEntry}
-use Rattle.mailmap_suggestions.specs.Suggestions.{Suggestion, suggestion, suggestions}
-use Rattle.mailmap_suggestions.specs.SuggestedText.{suggested_text, suggestions_text}
+use Rattle.mailmap_suggestions.specs.Suggestions.{Suggestion, suggestion}
 use Rattle.std.specs.Prelude.{option_to_list}
 use Rattle.std.specs.Option.{option_copied}
 use Rattle.std.specs.BTreeMap.{BTreeMap, get, is_at}
@@ -54,10 +54,6 @@ use Rattle.mailmap_entries.proofs.Joined.{never}
 -- a tally that was pushed
 pub tally_pushed : (old new : List TheTally) (t : TheTally) (ts : List Tally) → new ≡ old ++ t ∷ [] → map tally_of old ≡ ts → map tally_of new ≡ ts ++ tally_of t ∷ []
 tally_pushed old new t ts is before = ap (map tally_of) is ∙ map-append tally_of old (t ∷ []) ∙ ap (λ l. l ++ tally_of t ∷ []) before
-
-distinct_push : (xs : List Text) (k : Text) → distinct (xs ++ k ∷ []) ≡ distinct xs ++ (if list_any (bytes_eq k) xs then [] else k ∷ [])
-distinct_push [] k = refl
-distinct_push (x ∷ xs) k = search (rules, distinct_push xs k, filter-append, nat_list_eq_equiv.symm x k)
 
 at_key : (key q : Folded) → is_at (folded_cmp key) q ≡ bytes_eq (folded_text q) (folded_text key)
 at_key key q = is_eq-slice_cmp (folded_text key) (folded_text q) ∙ nat_list_eq_equiv.symm (folded_text key) (folded_text q)
@@ -129,17 +125,17 @@ keyed_groups text ts = ap (λ l. map (members (keyed_by text ts)) (distinct l)) 
 has_other : (k : Text) → k ≢ [] → (t : Text) → (not (bytes_eq t []) && bytes_eq k t) ≡ bytes_eq k t
 has_other k some t = search rules
 
--- those whose answers share a text
-pub shared_groups : (shared : Contact → Text) (h : Histories) (ts : List Tally)
-    → grouped (keyed_by (text_of shared h) (filter (λ t. not (bytes_eq (text_of shared h t) [])) ts)) ≡ map (sharers shared h ts) (shared_texts shared h (contacts ts))
-shared_groups shared h ts =
-    let text : Tally → Text = text_of shared h in
+-- those whose answers have one class
+pub class_groups : (class : Contact → Text) (h : Histories) (ts : List Tally)
+    → grouped (keyed_by (text_of class h) (filter (λ t. not (bytes_eq (text_of class h t) [])) ts)) ≡ map (class_members class h ts) (classes class h (contacts ts))
+class_groups class h ts =
+    let text : Tally → Text = text_of class h in
     let has : Text → Bool = λ t. not (bytes_eq t []) in
-    let answer : Contact → Text = λ c. shared (answer_to h.ours c) in
+    let answer : Contact → Text = λ c. class (answer_to h.ours c) in
     let parts : Text → List Tally = λ k. filter (λ t. bytes_eq k (text t)) (filter (λ t. has (text t)) ts) in
     keyed_groups text (filter (λ t. has (text t)) ts)
     ∙ ap (λ l. map parts (distinct l)) (sym (filter-map has text ts) ∙ ap (filter has) (sym (map-map answer (λ (t : Tally). t.contact) ts)))
-    ∙ map_alike parts (sharers shared h ts) (shared_texts shared h (contacts ts)) (all_weaker (shared_texts shared h (contacts ts)) (λ k some. filter-filter (λ t. bytes_eq k (text t)) (λ t. has (text t)) ts
+    ∙ map_alike parts (class_members class h ts) (classes class h (contacts ts)) (all_weaker (classes class h (contacts ts)) (λ k some. filter-filter (λ t. bytes_eq k (text t)) (λ t. has (text t)) ts
     ∙ filter_agree (λ t. has (text t) && bytes_eq k (text t)) (λ t. bytes_eq k (text t)) (λ t. has_other k some (text t)) ts) (somes (map answer (contacts ts))))
 
 -- those of a group by their old emails
@@ -152,90 +148,7 @@ email_groups ts =
     ∙ map_alike (λ k. contacts (parts k)) (λ k. of_old_email k (contacts ts)) (distinct (map email ts)) (all_of _ (λ k. sym (filter-map (λ c. bytes_eq k (folded c.email)) (λ (t : Tally). t.contact) ts)) (distinct (map email ts)))
     ∙ ap (λ l. map (λ k. of_old_email k (contacts ts)) (distinct l)) (sym (map-map (λ (c : Contact). folded c.email) (λ (t : Tally). t.contact) ts))
 
--- ==== lists by frequency, and the proper one of them
-
--- ---- the order by frequency
-
-pub frequency_total : IsTotalOrder frequency_cmp
-frequency_total = then_total
-    (then_total (on_total (λ (t : Tally). t.seen.count) (back_total nat_cmp_total)) (on_total (λ (t : Tally). t.seen.first_line) nat_cmp_total))
-    (then_total (on_total (λ (t : Tally). t.contact.name) nat_list_cmp_total) (on_total (λ (t : Tally). t.contact.email) nat_list_cmp_total))
-
-abbrev Apart : Tally → Tally → Type 0
-Apart t u = is_eq (frequency_cmp t u) ≡ false
-
-apart : (t u : Tally) → same t u ≡ false → Apart t u
-apart t u other = search (rules, never, then_eq, is_eq-slice_cmp)
-
--- ---- lists by frequency
-
-all_inserted : (P : Tally → Type 0) (t : Tally) (us : List Tally) → P t → AllByRecursion P us → AllByRecursion P (inserted t us)
-all_inserted P t [] p all = (p, tt)
-all_inserted P t (u ∷ us) p all = search (rules, all_inserted P t us p all.1)
-
-pub all_by_frequency : (P : Tally → Type 0) (ts : List Tally) → AllByRecursion P ts → AllByRecursion P (by_frequency ts)
-all_by_frequency P [] all = tt
-all_by_frequency P (t ∷ ts) all = all_inserted P t (by_frequency ts) all.0 (all_by_frequency P ts all.1)
-
-uninserted : (P : Tally → Type 0) (t : Tally) (us : List Tally) → AllByRecursion P (inserted t us) → AllByRecursion P (t ∷ us)
-uninserted P t [] all = all
-uninserted P t (u ∷ us) all = search (rules, uninserted P t us)
-
-pub from_by_frequency : (ts : List Tally) → HasOnly (by_frequency ts) ts
-from_by_frequency [] P all = tt
-from_by_frequency (t ∷ ts) P all = let rest = uninserted P t (by_frequency ts) all in (rest.0, from_by_frequency ts P rest.1)
-
-inserted_sorted : (t : Tally) (us : List Tally) → AllByRecursion (Apart t) us → IsStrictlySortedBy frequency_cmp us → IsStrictlySortedBy frequency_cmp (inserted t us)
-unfolding IsStrictlySortedBy
-inserted_sorted t [] apart up = (tt, tt)
-inserted_sorted t (u ∷ us) apart up = by (frequency_cmp t u) refl (inserted_sorted t us apart.1 up.1)
-  where
-    by : (r : Ordering) → frequency_cmp t u ≡ r → IsStrictlySortedBy frequency_cmp (inserted t us) → IsStrictlySortedBy frequency_cmp (if is_lt r then t ∷ u ∷ us else u ∷ inserted t us)
-    by Less is rest = ((is, all_weaker us (λ v less. frequency_total.trans t u v is less) up.0), up)
-    by Equal is rest = absurd (true≢false (sym (ap is_eq is) ∙ apart.0))
-    by Greater is rest =
-        (all_inserted (λ v. frequency_cmp u v ≡ Less) t us (frequency_total.antisymm u t ∙ ap ordering_reverse is) up.0, rest)
-
-by_frequency_sorted : (ts : List Tally) → IsDistinct same ts → IsStrictlySortedBy frequency_cmp (by_frequency ts)
-unfolding IsStrictlySortedBy IsDistinct
-by_frequency_sorted [] once = tt
-by_frequency_sorted (t ∷ ts) once =
-    inserted_sorted t (by_frequency ts) (all_by_frequency (Apart t) ts (all_weaker ts (apart t) once.0)) (by_frequency_sorted ts once.1)
-
-pub sorted_tallies : (ts us vs : List Tally) → AreTallies ts us → IsPermutation us vs → NoneBefore frequency_cmp vs → vs ≡ by_frequency (tallied ts)
-sorted_tallies ts us vs are moved up =
-    one_list frequency_cmp frequency_total ts us vs (by_frequency (tallied ts)) are moved up (by_frequency_sorted (tallied ts) (distinct_tallied ts))
-    (λ P. all_by_frequency P (tallied ts)) (from_by_frequency (tallied ts))
-
--- ---- the proper one
-
-abbrev pub Each : (Contact → Type 0) → List Tally → Type 0
-Each P ts = AllByRecursion (λ t. P t.contact) ts
-
-preferred_all : (P : Tally → Type 0) (best : Tally) (ts : List Tally) → P best → AllByRecursion P ts → P (preferred_of best ts)
-preferred_all P best [] p all = p
-preferred_all P best (t ∷ ts) p all = preferred_all P (preferred best t) ts (elim (is_preferred t best) as (λ b. P (if b then t else best)) [ true ↦ all.0 | false ↦ p ]) all.1
-
-pub all_named : (P : Contact → Type 0) (ts : List Tally) → ts ≢ [] → Each P ts → P (contact_or_nobody (proper ts))
-all_named P [] some all = absurd (some refl)
-all_named P (t ∷ ts) some all = preferred_all (λ t. P t.contact) t ts all.0 all.1
-
-abbrev IsUnnamed : Contact → Type 0
-IsUnnamed c = c.name ≡ []
-
-both_unnamed : (best t : Tally) → IsUnnamed (preferred best t).contact → IsUnnamed best.contact × IsUnnamed t.contact
-both_unnamed best t e = grind arith
-
-preferred_unnamed : (best : Tally) (ts : List Tally) → IsUnnamed (preferred_of best ts).contact → Each IsUnnamed (best ∷ ts)
-preferred_unnamed best [] e = (e, tt)
-preferred_unnamed best (t ∷ ts) e =
-    let rest = preferred_unnamed (preferred best t) ts e in
-    let both = both_unnamed best t rest.0 in (both.0, (both.1, rest.1))
-
--- it has a name if one has
-pub none_named : (ts : List Tally) → IsUnnamed (contact_or_nobody (proper ts)) → Each IsUnnamed ts
-none_named [] e = tt
-none_named (t ∷ ts) e = preferred_unnamed t ts e
+-- ==== the proper answer, as the code has it
 
 pub nobody_or : (o : Option (Bor TheTally)) (p : Option TheTally) (d r : TheTally) → p ≡ option_copied o → r ≡ unwrap_or p d → (tally_of d).contact ≡ nobody → (tally_of r).contact ≡ contact_or_nobody (option_map tally_at o)
 nobody_or o p d r copied is none = search rules
@@ -246,6 +159,10 @@ pub plus_joined : (h : Histories) (xs ys : List Mapping) → plus (plus h xs) ys
 plus_joined h xs ys = λ i. record { ours = append_assoc h.ours xs ys i; gits = append_assoc h.gits xs ys i }
 
 -- ---- whether contacts are answered
+
+-- a test of contacts
+pub all_contacts : (test : Contact → Bool) (ts : List TheTally) → list_all (λ t. test (tally_of t).contact) ts ≡ list_all test (contacts_of ts)
+all_contacts test ts = sym (list_all-map test (λ (t : Tally). t.contact) (map tally_of ts) ∙ list_all-map (λ t. test t.contact) tally_of ts)
 
 pub answered_all : (h : Histories) (to : Contact) (ts : List TheTally) → list_all (λ t. is_answered h to (tally_of t).contact) ts ≡ are_answered h to (contacts_of ts)
 answered_all h to ts = sym (list_all-map (is_answered h to) (λ (t : Tally). t.contact) (map tally_of ts) ∙ list_all-map (λ t. is_answered h to t.contact) tally_of ts)
@@ -330,8 +247,8 @@ module _ (h : Histories) (to : Contact) (ts : List TheTally) (first : TheTally) 
 
 -- ==== contacts of a group, part by part
 
-abbrev pub part_entries : Histories → Contact → Vec TheTally → List Mapping
-part_entries h to part = entries_for_email h to (contacts (tallies_in part))
+abbrev pub part_entries : List Text → Histories → Contact → Vec TheTally → List Mapping
+part_entries shared h to part = entries_for_email shared h to (contacts (tallies_in part))
 
 -- all entries without an old name are for the email
 pub plain_entries_plain : (h : Histories) (to : Contact) (email : Text) (cs : List Contact) → HaveEmail email cs → AllByRecursion (IsPlain email) (plain_entries h to cs)
@@ -340,25 +257,25 @@ plain_entries_plain h to email cs all = each_plain (IsPlain email) to h cs (all_
     one : (c : Contact) → folded c.email ≡ email → OfPlain (IsPlain email) to c
     one c is = search rules
 
-pub unowned_are : (h : Histories) (ts : List TheTally) → contacts_of (filter (λ t. not (has_own_entry h (tally_of t).contact)) ts) ≡ filter (λ c. not (has_own_entry h c)) (contacts_of ts)
-unowned_are h ts = search (rules, filter-map)
+pub unowned_are : (shared : List Text) (h : Histories) (ts : List TheTally) → contacts_of (filter (λ t. not (needs_own_entry shared h (tally_of t).contact)) ts) ≡ filter (λ c. not (needs_own_entry shared h c)) (contacts_of ts)
+unowned_are shared h ts = search (rules, filter-map)
 
--- the contacts without entries of their own have the same old email
-pub unowned_email : (h : Histories) (email : Text) (ts us : List TheTally) → us ≡ filter (λ t. not (has_own_entry h (tally_of t).contact)) ts → HaveEmail email (contacts_of ts)
-    → HaveEmail email (contacts_of us) × (contacts_of us ≡ filter (λ c. not (has_own_entry h c)) (contacts_of ts))
-unowned_email h email ts us is all =
-    let same = ap contacts_of is ∙ unowned_are h ts in
-    (subst (HaveEmail email) (sym same) (all_filtered (λ c. not (has_own_entry h c)) (λ c. folded c.email ≡ email) (λ c. folded c.email ≡ email) (λ c is _. is) (contacts_of ts) all), same)
+-- the contacts that need no entries of their own have the same old email
+pub unowned_email : (shared : List Text) (h : Histories) (email : Text) (ts us : List TheTally) → us ≡ filter (λ t. not (needs_own_entry shared h (tally_of t).contact)) ts → HaveEmail email (contacts_of ts)
+    → HaveEmail email (contacts_of us) × (contacts_of us ≡ filter (λ c. not (needs_own_entry shared h c)) (contacts_of ts))
+unowned_email shared h email ts us is all =
+    let same = ap contacts_of is ∙ unowned_are shared h ts in
+    (subst (HaveEmail email) (sym same) (all_filtered (λ c. not (needs_own_entry shared h c)) (λ c. folded c.email ≡ email) (λ c. folded c.email ≡ email) (λ c is _. is) (contacts_of ts) all), same)
 
 listed_sliced : (plain : Option Entry) (entries slice : List Entry) → entries ≡ slice → MatchOption plain (slice ≡ []) (λ x. slice ≡ x ∷ []) → map mapping_of entries ≡ listed plain
 listed_sliced None entries slice same is = ap (map mapping_of) (same ∙ is)
 listed_sliced (Some x) entries slice same is = ap (map mapping_of) (same ∙ is)
 
-pub begun : (h : Histories) (to : Contact) (email : Text) (ts us : List TheTally) (plain : Option Entry) (entries slice : List Entry) (a : Changes) → us ≡ filter (λ t. not (has_own_entry h (tally_of t).contact)) ts → HaveEmail email (contacts_of ts)
+pub begun : (shared : List Text) (h : Histories) (to : Contact) (email : Text) (ts us : List TheTally) (plain : Option Entry) (entries slice : List Entry) (a : Changes) → us ≡ filter (λ t. not (needs_own_entry shared h (tally_of t).contact)) ts → HaveEmail email (contacts_of ts)
     → listed plain ≡ plain_entries h to (contacts_of us) → entries ≡ slice → MatchOption plain (slice ≡ []) (λ x. slice ≡ x ∷ []) → (AllByRecursion (IsPlain email) (listed plain) → AreChangesBy to email (listed plain) a)
-    → ArePushed h to (entries_for_email h to (contacts_of ts)) (contacts_of ts) (map mapping_of entries) a
-begun h to email ts us plain entries slice a is all plain_is same sliced changed =
-    let ones = unowned_email h email ts us is all in
+    → ArePushed h to (entries_for_email shared h to (contacts_of ts)) (contacts_of ts) (map mapping_of entries) a
+begun shared h to email ts us plain entries slice a is all plain_is same sliced changed =
+    let ones = unowned_email shared h email ts us is all in
     let pushed = listed_sliced plain entries slice same sliced in
     record {
       email = email;
@@ -378,11 +295,11 @@ are_parts cs parts are =
     (subst (AllByRecursion HaveOneEmail) (sym are)
     (all_mapped (λ email. of_old_email email cs) HaveOneEmail emails (all_of (λ email. HaveOneEmail (of_old_email email cs)) (one_email cs) emails))))
 
-pub parts_whole : (h : Histories) (to : Contact) (cs : List Contact) (parts : List (Vec TheTally)) → map (λ p. contacts (tallies_in p)) parts ≡ map (λ email. of_old_email email cs) (distinct (map (λ c. folded c.email) cs))
-    → flat_map (part_entries h to) parts ≡ entries_to h to cs
-parts_whole h to cs parts are =
-    sym (flat_map-map (entries_for_email h to) (λ (p : Vec TheTally). contacts (tallies_in p)) parts) ∙ ap (flat_map (entries_for_email h to)) are
-    ∙ flat_map-map (entries_for_email h to) (λ email. of_old_email email cs) (distinct (map (λ c. folded c.email) cs))
+pub parts_whole : (shared : List Text) (h : Histories) (to : Contact) (cs : List Contact) (parts : List (Vec TheTally)) → map (λ p. contacts (tallies_in p)) parts ≡ map (λ email. of_old_email email cs) (distinct (map (λ c. folded c.email) cs))
+    → flat_map (part_entries shared h to) parts ≡ entries_to shared h to cs
+parts_whole shared h to cs parts are =
+    sym (flat_map-map (entries_for_email shared h to) (λ (p : Vec TheTally). contacts (tallies_in p)) parts) ∙ ap (flat_map (entries_for_email shared h to)) are
+    ∙ flat_map-map (entries_for_email shared h to) (λ email. of_old_email email cs) (distinct (map (λ c. folded c.email) cs))
 
 -- ==== entries that are read are accepted
 
@@ -413,8 +330,12 @@ line_accepted line = filter_all is_accepted (filter_map part_entry (parts line))
 
 -- ---- all suggested entries are accepted
 
-entries_accepted : (to : Contact) (h : Histories) (cs : List Contact) → AreAccepted (entries_to h to cs)
-entries_accepted to h cs = search (rules, all_joined, all_of, each_for_email)
+entries_accepted : (shared : List Text) (to : Contact) (h : Histories) (cs : List Contact) → AreAccepted (entries_to shared h to cs)
+entries_accepted shared to h cs = search (rules, all_joined, all_of, each_for_email)
+
+group_accepted : (shared : List Text) (base h : Histories) (g : List Tally) → AreAccepted (group_entries shared base h g)
+group_accepted shared base h g = elim (are_cut (wanted_entries shared base h g)) as (λ b. AreAccepted (if b then [] else wanted_entries shared base h g))
+    [ true ↦ tt | false ↦ entries_accepted shared (proper_answer shared h g) base (contacts g) ]
 
 -- the entries of a table, whose history are these
 pub entries_in : (history : List LocatedMapping) (now items : List LocatedEntry) → history ≡ map located_of now → now ≡ items → entries history ≡ map (λ x. mapping_of x.entry) items
@@ -422,12 +343,7 @@ entries_in history now items is same = ap entries (is ∙ ap (map located_of) sa
 
 -- ---- what was suggested
 
--- the entries of suggestions for groups
-pub suggested_entries : (h : Histories) (b : Bool) (gs : List (List Tally)) → accepted (flat_map (λ s. s.entries) (map (suggestion h b) gs)) ≡ flat_map (group_entries h) gs
-suggested_entries h b gs = ap accepted (flat_map-map (λ (s : Suggestion). s.entries) (suggestion h b) gs)
-    ∙ filter_all is_accepted (flat_map (group_entries h) gs)
-    (all_joined (λ e. is_accepted e ≡ true) (group_entries h) gs (all_of (λ g. AreAccepted (group_entries h g)) (λ g. entries_accepted (proper_answer h g) h (contacts g)) gs))
-
--- as text, one after another, they are the text that is suggested
-pub suggestions_said : (h : Histories) (ts : List Tally) → suggestions_text (suggestions h ts) ≡ suggested_text h ts
-suggestions_said h ts = search (rules, flat_map-append, flat_map-map)
+-- the entries of groups are accepted
+pub groups_accepted : (shared : List Text) (base h : Histories) (gs : List (List Tally)) → accepted (flat_map (group_entries shared base h) gs) ≡ flat_map (group_entries shared base h) gs
+groups_accepted shared base h gs = filter_all is_accepted (flat_map (group_entries shared base h) gs)
+    (all_joined (λ e. is_accepted e ≡ true) (group_entries shared base h) gs (all_of (λ g. AreAccepted (group_entries shared base h g)) (group_accepted shared base h) gs))

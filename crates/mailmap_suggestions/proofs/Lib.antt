@@ -1,7 +1,36 @@
 mod Distinct
+pub mod Counting
+mod Classed
+mod FirstLogin
+mod Forests
+pub mod Proper
+mod Frequent
+mod Ordered
+mod Remembering
+mod Spelled
+mod Participating
+mod Seeing
+mod Strangers
 pub mod Appended
+pub mod Changed
 pub mod Forms
+mod ListTests
+mod MemberMarks
+mod LoginLinks
+mod NameLinks
+mod Grouping
+mod Holding
+pub mod Staged
+mod Suggested
 pub mod United
-mod After
-mod Fed
-mod Last
+pub mod After
+pub mod Fed
+mod GitTrim
+pub mod Careful
+pub mod Texts
+pub mod Selected
+pub mod Writable
+mod GitText
+mod Needed
+mod NoZero
+mod Together

@@ -1,7 +1,8 @@
 -- What git answers to contacts, and the entries by which they get one answer.
-use Rattle.std.specs.Prelude.{◌≡◌, Bool, ◌&&◌, ◌||◌, ◌++◌, not, if◌then◌else◌, is_some, Option, Some, None, List, [], ◌∷◌}
+use Rattle.std.specs.Prelude.{◌≡◌, Bool, ◌&&◌, ◌||◌, ◌++◌, not, if◌then◌else◌, is_some, Option, Some, None, List, []}
+use Rattle.std.specs.Prelude.{◌∷◌}
 use Rattle.std.specs.Prelude.{map, filter, bytes_eq, unwrap_or}
-use Rattle.std.specs.List.{flat_map, list_all}
+use Rattle.std.specs.List.{flat_map, list_all, list_any}
 use Rattle.mailmap_entries.specs.Entries.{Mapping, mapping}
 use Rattle.mailmap_entries.specs.Folding.{Text, folded}
 use Rattle.mailmap_entries.specs.Semantics.{Fields, Key, last_fields, no_fields}
@@ -52,6 +53,15 @@ abbrev pub has_own_entry : Histories → Contact → Bool
 has_own_entry h c = is_some (last_fields h.ours (own_key c))
     || is_some (last_fields h.gits (own_key c))
 
+-- whether several people share an email; `shared` are the folded emails of which that is so
+abbrev pub is_shared : List Text → Text → Bool
+is_shared shared email = list_any (bytes_eq (folded email)) shared
+
+-- Whether a contact is answered by an entry with its old name alone: it has one, or several people share the email of
+-- its answer, so that an entry without an old name would be for all of them.
+abbrev pub needs_own_entry : List Text → Histories → Contact → Bool
+needs_own_entry shared h c = has_own_entry h c || is_shared shared (answer_to h.ours c).email
+
 -- ---- the entries for one old email
 
 -- an empty name is not written
@@ -92,9 +102,9 @@ named_entries h to (c ∷ cs) = if is_answered h to c then named_entries h to cs
     else named_form to c ∷ named_entries (plus h (named_form to c ∷ [])) to cs
 
 -- the entries that make `to` the answers of these contacts with one old email
-abbrev pub entries_for_email : Histories → Contact → List Contact → List Mapping
-entries_for_email h to cs =
-    let plain = plain_entries h to (filter (λ c. not (has_own_entry h c)) cs) in
+abbrev pub entries_for_email : List Text → Histories → Contact → List Contact → List Mapping
+entries_for_email shared h to cs =
+    let plain = plain_entries h to (filter (λ c. not (needs_own_entry shared h c)) cs) in
     plain ++ named_entries (plus h plain) to cs
 
 -- ---- the entries for any contacts
@@ -108,6 +118,6 @@ abbrev pub of_old_email : Text → List Contact → List Contact
 of_old_email email cs = filter (λ c. bytes_eq email (folded c.email)) cs
 
 -- the entries that make `to` the answers of these contacts, old email by old email
-abbrev pub entries_to : Histories → Contact → List Contact → List Mapping
-entries_to h to cs =
-    flat_map (λ email. entries_for_email h to (of_old_email email cs)) (distinct (map (λ c. folded c.email) cs))
+abbrev pub entries_to : List Text → Histories → Contact → List Contact → List Mapping
+entries_to shared h to cs =
+    flat_map (λ email. entries_for_email shared h to (of_old_email email cs)) (distinct (map (λ c. folded c.email) cs))

@@ -1,52 +1,51 @@
--- The entries that mailmaps lack for contacts: those by which no two answers share an email and differ, and those by
--- which then no two share a name.
-use Rattle.std.specs.Prelude.{◌≡◌, ◌≢◌, ◌&&◌, Bool, false, true, not, if◌then◌else◌, List, [], ◌∷◌, map}
+-- The entries that mailmaps lack for contacts: those by which all answers of a group are one.
+use Rattle.std.specs.Prelude.{◌≡◌, ◌≢◌, ◌&&◌, ◌++◌, Bool, false, true, not, if◌then◌else◌, List, [], ◌∷◌, map}
 use Rattle.std.specs.Prelude.{Option, None, Some, bytes_eq, filter}
-use Rattle.std.specs.List.{AllByRecursion, flat_map}
+use Rattle.std.specs.List.{AllByRecursion, Contains, flat_map, list_any}
 use Rattle.mailmap_contacts.specs.Contacts.{Contact, Tally, answer_to}
 use Rattle.mailmap_entries.specs.Entries.{Mapping}
 use Rattle.mailmap_entries.specs.Folding.{Text, folded}
 use Rattle.mailmap_grammar.specs.CanonicalText.{IsWritableEmail, IsWritableName}
-use Rattle.mailmap_contacts.specs.Proper.{proper}
+use Rattle.mailmap_contacts.specs.Proper.{comes_more, has_text, proper}
 use Rattle.mailmap_suggestions.specs.Counted.{counted_answers}
-use Rattle.mailmap_suggestions.specs.Forms.{Histories, alike, are_answered, distinct, entries_to, git_answer_to, plus}
+use Rattle.mailmap_suggestions.specs.EntryLines.{is_cut_by_git}
+use Rattle.mailmap_suggestions.specs.Forms.{Histories, IsAnswered, alike, are_answered, distinct, entries_to}
+use Rattle.mailmap_suggestions.specs.Forms.{git_answer_to, is_shared}
 
 abbrev pub contacts : List Tally → List Contact
 contacts ts = map (λ t. t.contact) ts
 
 -- ---- groups
 
--- what the answers of a group share, ASCII case aside; an answer with an empty text there is in no group
-abbrev pub email_shared : Contact → Text
-email_shared a = folded a.email
+-- An answer has a class; answers with one class are in a group, and one with an empty class is in none.
 
--- an answer without an email is nobody's
-abbrev pub name_shared : Contact → Text
-name_shared a = if bytes_eq a.email [] then [] else folded a.name
+-- by its email, ASCII case aside, if not several people share it
+abbrev pub email_class : List Text → Contact → Text
+email_class shared a = if is_shared shared a.email then [] else folded a.email
 
 -- whether this library and git answer all of them alike
 abbrev pub are_alike : Histories → List Contact → Bool
 are_alike h [] = true
 are_alike h (c ∷ cs) = are_answered h (answer_to h.ours c) (c ∷ cs)
 
--- the texts that answers share, in the order of first occurrence
-abbrev pub shared_texts : (Contact → Text) → Histories → List Contact → List Text
-shared_texts shared h cs = distinct (filter (λ text. not (bytes_eq text [])) (map (λ c. shared (answer_to h.ours c)) cs))
+-- the classes of the answers, in the order of first occurrence
+abbrev pub classes : (Contact → Text) → Histories → List Contact → List Text
+classes class h cs = distinct (filter (λ k. not (bytes_eq k [])) (map (λ c. class (answer_to h.ours c)) cs))
 
--- those whose answers share a text
-abbrev pub sharers : (Contact → Text) → Histories → List Tally → Text → List Tally
-sharers shared h ts text = filter (λ t. bytes_eq text (shared (answer_to h.ours t.contact))) ts
+-- the contacts whose answers have a class
+abbrev pub members : (Contact → Text) → Histories → List Tally → Text → List Tally
+members class h ts k = filter (λ t. bytes_eq k (class (answer_to h.ours t.contact))) ts
 
--- those that share something and aren't all answered alike
+-- those with one class that aren't all answered alike
 abbrev pub groups : (Contact → Text) → Histories → List Tally → List (List Tally)
-groups shared h ts = filter (λ g. not (are_alike h (contacts g)))
-    (map (sharers shared h ts) (shared_texts shared h (contacts ts)))
+groups class h ts = filter (λ g. not (are_alike h (contacts g)))
+    (map (members class h ts) (classes class h (contacts ts)))
 
 -- whether a contact is in such a group
 abbrev pub is_grouped : (Contact → Text) → Histories → List Tally → Contact → Bool
-is_grouped shared h ts c =
-    let text = shared (answer_to h.ours c) in
-    not (bytes_eq text []) && not (are_alike h (contacts (sharers shared h ts text)))
+is_grouped class h ts c =
+    let k = class (answer_to h.ours c) in
+    not (bytes_eq k []) && not (are_alike h (contacts (members class h ts k)))
 
 -- ---- the proper answer of a group
 
@@ -57,26 +56,79 @@ abbrev pub contact_or_nobody : Option Tally → Contact
 contact_or_nobody None = nobody
 contact_or_nobody (Some t) = t.contact
 
--- of those with a name, or of all if none has one, the one that comes most often; of several of these the first
-abbrev pub proper_answer : Histories → List Tally → Contact
-proper_answer h g = contact_or_nobody (proper (counted_answers h g))
+-- the first of two lists that isn't empty
+abbrev pub or_else : List Tally → List Tally → List Tally
+or_else [] bs = bs
+or_else (a ∷ rest) bs = a ∷ rest
+
+-- the answers with a name whose email is of one person
+abbrev pub of_one_person : List Text → List Tally → List Tally
+of_one_person shared answers =
+    filter (λ a. has_text a.contact.name && not (is_shared shared a.contact.email)) answers
+
+-- Of these; or of those with a name, or of all if none has one: the one that comes most often, of several the first.
+abbrev pub proper_answer : List Text → Histories → List Tally → Contact
+proper_answer shared h g =
+    let answers = counted_answers h g in
+    contact_or_nobody (proper (or_else (of_one_person shared answers) answers))
+
+-- the answers of which it is chosen
+abbrev pub candidates : List Text → List Tally → List Tally
+candidates shared answers =
+    or_else (of_one_person shared answers) (or_else (filter (λ a. has_text a.contact.name) answers) answers)
+
+-- the contact of one of these tallies: none of them comes more often, or as often and first on an earlier line
+pub record IsMostFrequent (ts : List Tally) (c : Contact) : Type 0 where
+  pub best : Tally
+  pub among : Contains ts best
+  pub same : best.contact ≡ c
+  pub most : AllByRecursion (λ t. comes_more t.seen best.seen ≡ false) ts
 
 -- ---- entries
 
 -- by which all contacts of a group get its proper answer
-abbrev pub group_entries : Histories → List Tally → List Mapping
-group_entries h g = entries_to h (proper_answer h g) (contacts g)
+abbrev pub wanted_entries : List Text → Histories → Histories → List Tally → List Mapping
+wanted_entries shared base h g = entries_to shared base (proper_answer shared h g) (contacts g)
 
-abbrev pub all_entries : (Contact → Text) → Histories → List Tally → List Mapping
-all_entries shared h ts = flat_map (group_entries h) (groups shared h ts)
+-- whether git would cut one of their lines
+abbrev pub are_cut : List Mapping → Bool
+are_cut es = list_any is_cut_by_git es
 
--- for answers that share an email
-abbrev pub email_entries : Histories → List Tally → List Mapping
-email_entries h ts = all_entries email_shared h ts
+-- The entries for a group: none if git would cut one. They are made for the answers of `base`, without other
+-- suggestions that somebody may reject; the groups and their proper answers are those of `h`.
+abbrev pub group_entries : List Text → Histories → Histories → List Tally → List Mapping
+group_entries shared base h g =
+    let es = wanted_entries shared base h g in
+    if are_cut es then [] else es
 
--- for answers that share a name then; two people may share one, so these are for somebody to judge
-abbrev pub name_entries : Histories → List Tally → List Mapping
-name_entries h ts = all_entries name_shared (plus h (email_entries h ts)) ts
+abbrev pub all_entries : List Text → (Contact → Text) → Histories → Histories → List Tally → List Mapping
+all_entries shared class base h ts = flat_map (group_entries shared base h) (groups class h ts)
+
+-- for answers with an email that one person has
+abbrev pub email_entries : List Text → Histories → List Tally → List Mapping
+email_entries shared h ts = all_entries shared (email_class shared) h h ts
+
+-- ---- some of the groups
+
+-- the class if it passes a test, so that the groups of the others are none
+abbrev pub only : (Text → Bool) → (Contact → Text) → Contact → Text
+only passes class a = if passes (class a) then class a else []
+
+-- without the groups of which git would cut a line
+abbrev pub uncut : List Text → (Contact → Text) → Histories → Histories → List Tally → Contact → Text
+uncut shared class base h ts =
+    only (λ k. not (are_cut (wanted_entries shared base h (members class h ts k)))) class
+
+-- by its email, if one person has it and git would cut no line for it
+abbrev pub uncut_email_class : List Text → List Mapping → List Tally → Contact → Text
+uncut_email_class shared h ts = uncut shared (email_class shared) (alike h) (alike h) ts
+
+-- mailmaps that git reads as this library does, with entries appended: those for emails, and those for some classes
+abbrev pub with_emails : List Text → List Mapping → List Tally → List Mapping
+with_emails shared h ts = h ++ email_entries shared (alike h) ts
+
+abbrev pub with_classes : List Text → (Contact → Text) → List Mapping → List Tally → List Mapping
+with_classes shared class h ts = h ++ all_entries shared class (alike h) (alike h) ts
 
 -- ---- what they do
 
@@ -84,23 +136,48 @@ name_entries h ts = all_entries name_shared (plus h (email_entries h ts)) ts
 abbrev pub HasNoEmptyName : Mapping → Type 0
 HasNoEmptyName e = e.new_name ≢ Some []
 
--- the answers to two contacts are the same if they share a text
+-- the answers to two contacts are the same if they have one class
 abbrev pub Agree : (Contact → Text) → List Mapping → Contact → Contact → Type 0
-Agree shared g b c = shared (answer_to g b) ≡ shared (answer_to g c) → shared (answer_to g c) ≢ [] → answer_to g b ≡ answer_to g c
+Agree class g b c = class (answer_to g b) ≡ class (answer_to g c) → class (answer_to g c) ≢ []
+    → answer_to g b ≡ answer_to g c
 
 abbrev pub AllAgree : (Contact → Text) → List Mapping → List Contact → Type 0
-AllAgree shared g cs = AllByRecursion (λ b. AllByRecursion (Agree shared g b) cs) cs
+AllAgree class g cs = AllByRecursion (λ b. AllByRecursion (Agree class g b) cs) cs
 
--- The mappings g answer the contacts as h does, but those of each group by its proper answer. So no two answers share
--- an email, or a name, and differ.
-pub record Unites (shared : Contact → Text) (h : List Mapping) (ts : List Tally) (g : List Mapping) : Type 0 where
-  pub groups : AllByRecursion (λ group. AllByRecursion (λ c. answer_to g c ≡ proper_answer (alike h) group)
-      (contacts group)) (groups shared (alike h) ts)
-  pub others : AllByRecursion (λ c. is_grouped shared (alike h) ts c ≡ false
+-- by the mappings g, the proper answer of those with its class is the answer to a contact with a class; git's, too
+abbrev pub GetsProper : List Text → (Contact → Text) → List Mapping → List Tally → List Mapping → Contact → Type 0
+GetsProper shared class h ts g c =
+    let k = class (answer_to h c) in
+    k ≢ [] → IsAnswered g (proper_answer shared (alike h) (members class (alike h) ts k)) c
+
+-- The mappings g answer the contacts as h does, but those with a class by the proper answer of all with this class. So
+-- no two answers have one class and differ.
+pub record Unites (shared : List Text) (class : Contact → Text) (h : List Mapping) (ts : List Tally) (g : List Mapping)
+    : Type 0 where
+  pub proper : AllByRecursion (GetsProper shared class h ts g) (contacts ts)
+  pub others : AllByRecursion (λ c. is_grouped class (alike h) ts c ≡ false
       → (answer_to g c ≡ answer_to h c) × (git_answer_to g c ≡ git_answer_to h c)) (contacts ts)
-  pub distinct : AllAgree shared g (contacts ts)
-  -- git's answers are the same
-  pub git : AllByRecursion (λ c. git_answer_to g c ≡ answer_to g c) (contacts ts)
+  pub distinct : AllAgree class g (contacts ts)
+
+-- The mappings g answer the contacts as `base` does, but those of each group by its proper answer. The groups are those
+-- of the answers by h.
+pub record UnitesAlone (shared : List Text) (class : Contact → Text) (base h : List Mapping) (ts : List Tally)
+    (g : List Mapping) : Type 0 where
+  pub grouped : AllByRecursion (λ c. is_grouped class (alike h) ts c ≡ true
+      → IsAnswered g (proper_answer shared (alike h) (members class (alike h) ts (class (answer_to h c)))) c)
+      (contacts ts)
+  pub others : AllByRecursion (λ c. is_grouped class (alike h) ts c ≡ false
+      → (answer_to g c ≡ answer_to base c) × (git_answer_to g c ≡ git_answer_to base c)) (contacts ts)
+
+-- git would cut no line that makes the answers of a class one
+abbrev pub NoneCut : List Text → (Contact → Text) → List Mapping → List Tally → Type 0
+NoneCut shared class h ts = AllByRecursion (λ c. are_cut (wanted_entries shared (alike h) (alike h)
+    (members class (alike h) ts (class (answer_to h c)))) ≡ false) (contacts ts)
+
+-- at least for the classes of contacts with this property
+abbrev pub NoneCutIf : (Contact → Type 0) → List Text → (Contact → Text) → List Mapping → List Tally → Type 0
+NoneCutIf P shared class h ts = AllByRecursion (λ c. P c → are_cut (wanted_entries shared (alike h) (alike h)
+    (members class (alike h) ts (class (answer_to h c)))) ≡ false) (contacts ts)
 
 -- as in each contact that is read from a line
 pub record IsWritableContact (c : Contact) : Type 0 where

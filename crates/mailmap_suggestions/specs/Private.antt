@@ -1,5 +1,6 @@
 -- Contacts in groups, and what entries for one old email change when they are appended, as the code has them.
-use Rattle.std.specs.Prelude.{◌≡◌, Bool, if◌then◌else◌, List, None, Some, map, filter, bytes_eq, option_map, ◌&&◌, true, is_some, Option, unwrap_or}
+use Rattle.std.specs.Prelude.{◌≡◌, Bool, if◌then◌else◌, List, None, Some, map, filter, bytes_eq, option_map, ◌&&◌, true}
+use Rattle.std.specs.Prelude.{is_some, Option, unwrap_or}
 use Rattle.std.specs.BTreeMap.{BTreeMap, get}
 use Rattle.std.specs.Global.{Vec}
 use Rattle.std.specs.List.{list_any, AllByRecursion}
@@ -9,9 +10,7 @@ use Rattle.mailmap_contacts.specs.Contacts.{Contact, Tally, answer_to, same_cont
 use Rattle.mailmap_contacts.specs.Folded.{folded_text}
 use Rattle.contact_counter.specs.declared.tallies.Tally.{Tally as TheTally}
 use Rattle.mailmap_contacts.specs.declared.folded.Folded.{Folded}
-use Rattle.mailmap_contacts.specs.declared.proper.Shared.{Shared}
-use Rattle.mailmap_contacts.specs.declared.proper.Shared.TheVariants.{Email, Name}
-use Rattle.mailmap_suggestions.specs.GroupEntries.{email_shared, name_shared, contacts}
+use Rattle.mailmap_suggestions.specs.GroupEntries.{contacts}
 use Rattle.mailmap_suggestions.specs.Forms.{Histories, distinct, git_answer_to, name_unless_empty, own_key, replaced}
 use Rattle.std.specs.BTreeSet.{contains}
 use Rattle.std.specs.Option.{option_copied, option_to_list}
@@ -21,13 +20,9 @@ use Rattle.mailmap_entries.specs.declared.entry.Entry.{Entry}
 use Rattle.mailmap_redundancy.specs.Summaries.{fields_of}
 use Rattle.mailmap_suggestions.specs.declared.changes.Changes.{Changes}
 
-abbrev pub shared_by : Shared → Contact → Text
-shared_by Email = email_shared
-shared_by Name = name_shared
-
--- what the answer to a contact shares with others
+-- the class of the answer to a contact
 abbrev pub text_of : (Contact → Text) → Histories → Tally → Text
-text_of shared h t = shared (answer_to h.ours t.contact)
+text_of class h t = class (answer_to h.ours t.contact)
 
 abbrev pub tallies_in : Vec TheTally → List Tally
 tallies_in group = map tally_of group.items

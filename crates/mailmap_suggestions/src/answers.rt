@@ -1,22 +1,19 @@
 //! What this library and git answer to contacts.
-ghost use Rattle.std.specs.Prelude.{◌≡◌, IfOk, List, is_some, map, unwrap_or};
+ghost use Rattle.std.specs.Prelude.{◌≡◌, IfOk, is_some, map, unwrap_or};
 ghost use Rattle.std.specs.List.{list_all};
 ghost use Rattle.std.specs.Option.{option_map};
-ghost use Rattle.mailmap_entries.specs.Folding.{Text, folded};
+ghost use Rattle.mailmap_entries.specs.Folding.{folded};
 ghost use Rattle.mailmap_entries.specs.Semantics.{last_fields, no_fields, spelling};
 ghost use Rattle.mailmap_redundancy.specs.Summaries.{fields_of};
 ghost use Rattle.mailmap_contacts.specs.Answers.{tally_of};
-ghost use Rattle.mailmap_contacts.specs.Contacts.{answered, contacts_from, tallied};
-ghost use Rattle.mailmap_contacts.specs.Counts.{AreContactsOf};
+ghost use Rattle.mailmap_contacts.specs.Contacts.{answered};
 ghost use Rattle.mailmap_suggestions.specs.Private.{contacts_of};
 ghost use Rattle.mailmap_suggestions.specs.Counted.{git_answered, other_git_answers};
 ghost use Rattle.mailmap_suggestions.specs.Forms.{is_answered, own_key, replaced};
 ghost use Rattle.mailmap_suggestions.specs.GroupEntries.{are_alike};
-ghost use Rattle.mailmap_suggestions.specs.Histories.{histories_of};
 
 use crate::histories::Histories;
 use mailmap_contacts::answers::Tally;
-use mailmap_contacts::counter::Contacts;
 use mailmap_contacts::proper::is_same;
 use mailmap_redundancy::{Effective, Fields};
 use std::alloc::{AllocError, Global};
@@ -131,23 +128,6 @@ impl<'p, 'a> Answers<'p, 'a> {
     {
         is_same(&self.ours(contact), to) && is_same(&self.gits(contact), to)
     }
-}
-
-/// git's answers to the distinct contacts that it answers otherwise than this library, with these mailmaps. Each comes
-/// where its contact comes; they are in the order of the contacts' first lines.
-///
-/// With `Jane <Jane@x>` the contact `jane <jane@x>` is `Jane <Jane@x>` for this library, and for git `Jane <jane@x>`.
-pub fn other_git_answers<'a>(
-    alloc: Global,
-    buffers: &[&'a [u8]],
-    contacts: &'a Contacts,
-) -> Result<Vec<Tally<'a>>, AllocError>
-    ensures { (lines : List Text) → AreContactsOf lines contacts.now → IfOk result (λ others. map tally_of others.items
-        ≡ other_git_answers (histories_of (map (λ b. b.now) buffers.now)) (tallied (contacts_from 1 lines))) }
-{
-    let histories = Histories::read(alloc, buffers)?;
-    let answers = Answers::new(alloc, &histories)?;
-    answers.others_of_git(alloc, &contacts.in_order(alloc)?)
 }
 
 /// The contact with its fields overridden.

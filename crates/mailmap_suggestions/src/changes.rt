@@ -34,7 +34,7 @@ pub(crate) struct Changes<'a> {
 
 impl<'a> Changes<'a> {
     /// Those of an entry without an old name, or of no entry.
-    #[tactic(auto, using(crate::proofs::Appended::changes_plain))]
+    #[tactic(auto, using(crate::proofs::Changed::changes_plain))]
     pub(crate) fn new(alloc: Global, plain: Option<Entry<'a>>) -> Self
         ensures { (to : Contact) (email : Text) → AllByRecursion (IsPlain email) (listed plain.entry)
             → AreChangesBy to email (listed plain.entry) result }

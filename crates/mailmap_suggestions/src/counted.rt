@@ -5,12 +5,14 @@ ghost use Rattle.mailmap_contacts.specs.Contacts.{tallied};
 ghost use Rattle.mailmap_contacts.specs.Proper.{proper};
 ghost use Rattle.mailmap_suggestions.specs.Counted.{by_frequency as spec_by_frequency, counted_answers, frequency_cmp};
 ghost use Rattle.mailmap_suggestions.specs.Counted.{counted_git_answers, ranked};
-ghost use Rattle.mailmap_suggestions.specs.GroupEntries.{contact_or_nobody};
+ghost use Rattle.mailmap_suggestions.specs.GroupEntries.{contact_or_nobody, nobody as spec_nobody, of_one_person};
+ghost use Rattle.mailmap_suggestions.specs.GroupEntries.{or_else};
 
 use crate::answers::Answers;
+use crate::shared::SharedEmails;
 use mailmap_contacts::answers::{Tally, answers_in};
 use mailmap_contacts::occurrences::{Occurrences, add_to};
-use mailmap_contacts::proper::proper_of;
+use mailmap_contacts::proper::{has_text, proper_of};
 use std::alloc::{AllocError, Global};
 use std::cmp::Ordering;
 use std::collections::BTreeMap;
@@ -38,7 +40,8 @@ pub(crate) fn counted_git_answers<'a>(
     answers: &Answers<'_, 'a>,
     group: &[Tally<'a>],
 ) -> Result<Vec<Tally<'a>>, AllocError>
-    ensures { IfOk result (λ found. map tally_of found.items ≡ counted_git_answers answers.now (map tally_of group.now)) }
+    ensures { IfOk result (λ found. map tally_of found.items
+        ≡ counted_git_answers answers.now (map tally_of group.now)) }
 {
     let contacts = by_frequency(alloc, group)?;
     let others = answers.others_of_git(alloc, &contacts)?;
@@ -86,17 +89,58 @@ fn compare(a: &Tally<'_>, b: &Tally<'_>) -> Ordering
     counts.then(lines).then(contacts)
 }
 
-/// The proper one of counted answers, or nobody if there are none.
+/// The proper one of counted answers, or nobody if there are none: of those with a name whose email is of one person,
+/// or of those with a name, or of all.
+#[tactic(auto, using(crate::proofs::Counting::or_else_by))]
+pub(crate) fn proper_or_nobody<'a>(
+    alloc: Global,
+    shared: &SharedEmails<'a>,
+    answers: &[Tally<'a>],
+) -> Result<Tally<'a>, AllocError>
+    ensures { IfOk result (λ best. (tally_of best).contact ≡ contact_or_nobody
+        (proper (or_else (of_one_person shared.now (map tally_of answers.now)) (map tally_of answers.now)))) }
+{
+    let of_one = of_one_person(alloc, shared, answers)?;
+    if of_one.is_empty() {
+        Ok(best_or_nobody(answers))
+    } else {
+        Ok(best_or_nobody(&of_one))
+    }
+}
+
 #[tactic(auto, using(crate::proofs::Forms::nobody_or))]
-pub(crate) fn proper_or_nobody<'a>(answers: &[Tally<'a>]) -> Tally<'a>
+fn best_or_nobody<'a>(answers: &[Tally<'a>]) -> Tally<'a>
     ensures { (tally_of result).contact ≡ contact_or_nobody (proper (map tally_of answers.now)) }
 {
-    proper_of(answers).copied().unwrap_or(Tally {
+    proper_of(answers).copied().unwrap_or(nobody())
+}
+
+/// An empty answer.
+pub(crate) fn nobody<'a>() -> Tally<'a>
+    ensures { (tally_of result).contact ≡ spec_nobody }
+{
+    Tally {
         name: b"",
         email: b"",
         seen: Occurrences {
             count: 0,
             first_line: 0,
         },
-    })
+    }
+}
+
+fn of_one_person<'a>(
+    alloc: Global,
+    shared: &SharedEmails<'a>,
+    answers: &[Tally<'a>],
+) -> Result<Vec<Tally<'a>>, AllocError>
+    ensures { IfOk result (λ found. map tally_of found.items ≡ of_one_person shared.now (map tally_of answers.now)) }
+{
+    let mut found = Vec::new(alloc);
+    for answer in answers {
+        if has_text(answer.name) && !shared.contains(answer.email) {
+            found.push(*answer)?;
+        }
+    }
+    Ok(found)
 }

@@ -3,12 +3,13 @@ ghost use Rattle.std.specs.Prelude.{◌≡◌, IfOk, filter, map, not};
 ghost use Rattle.mailmap_entries.specs.Entries.{mapping_of};
 ghost use Rattle.mailmap_contacts.specs.Answers.{tally_of};
 ghost use Rattle.mailmap_suggestions.specs.Private.{HaveOneEmail, contacts_of, listed};
-ghost use Rattle.mailmap_suggestions.specs.Forms.{entries_for_email, entries_to, fits, has_own_entry, long_form};
-ghost use Rattle.mailmap_suggestions.specs.Forms.{named_form, plain_entries};
+ghost use Rattle.mailmap_suggestions.specs.Forms.{entries_for_email, entries_to, fits, long_form};
+ghost use Rattle.mailmap_suggestions.specs.Forms.{named_form, needs_own_entry, plain_entries};
 
 use crate::answers::Answers;
 use crate::changes::{Changes, name_unless_empty};
 use crate::groups::by_old_email;
+use crate::shared::SharedEmails;
 use mailmap_contacts::answers::Tally;
 use mailmap_entries::Entry;
 use mailmap_entries::fold::cmp_ignore_ascii_case;
@@ -17,16 +18,17 @@ use std::alloc::{AllocError, Global};
 /// The entries that make `to` the answer to the contacts of a group, old email by old email.
 pub(crate) fn entries_to<'a>(
     alloc: Global,
+    shared: &SharedEmails<'a>,
     answers: &Answers<'_, 'a>,
     to: &Tally<'a>,
     group: &[Tally<'a>],
 ) -> Result<Vec<Entry<'a>>, AllocError>
     ensures { IfOk result (λ entries. map mapping_of entries.items
-        ≡ entries_to answers.now (tally_of to.now).contact (contacts_of group.now)) }
+        ≡ entries_to shared.now answers.now (tally_of to.now).contact (contacts_of group.now)) }
 {
     let mut entries = Vec::new(alloc);
     for part in &by_old_email(alloc, group)? {
-        entries.extend_from_slice(&entries_for_email(alloc, answers, to, part)?)?;
+        entries.extend_from_slice(&entries_for_email(alloc, shared, answers, to, part)?)?;
     }
     Ok(entries)
 }
@@ -35,15 +37,21 @@ pub(crate) fn entries_to<'a>(
 // name if they need it, and one with it for each contact that then isn't answered by `to` already.
 fn entries_for_email<'a>(
     alloc: Global,
+    shared: &SharedEmails<'a>,
     answers: &Answers<'_, 'a>,
     to: &Tally<'a>,
     contacts: &[Tally<'a>],
 ) -> Result<Vec<Entry<'a>>, AllocError>
     requires { HaveOneEmail (contacts_of contacts.now) }
     ensures { IfOk result (λ entries. map mapping_of entries.items
-        ≡ entries_for_email answers.now (tally_of to.now).contact (contacts_of contacts.now)) }
+        ≡ entries_for_email shared.now answers.now (tally_of to.now).contact (contacts_of contacts.now)) }
 {
-    let plain = plain_entry(alloc, answers, to, &unowned(alloc, answers, contacts)?);
+    let plain = plain_entry(
+        alloc,
+        answers,
+        to,
+        &plain_contacts(alloc, shared, answers, contacts)?,
+    );
     let mut changes = Changes::new(alloc, plain);
     let mut entries = Vec::from_slice(alloc, plain.as_slice())?;
     for contact in contacts {
@@ -56,20 +64,36 @@ fn entries_for_email<'a>(
     Ok(entries)
 }
 
-// Those without entries of their own, in this library and in git.
-fn unowned<'a>(
+// Those that an entry without an old name may be for: they have no entries of their own, in this library and in git,
+// and one person has the email of the answer.
+fn plain_contacts<'a>(
     alloc: Global,
+    shared: &SharedEmails<'a>,
     answers: &Answers<'_, 'a>,
     contacts: &[Tally<'a>],
 ) -> Result<Vec<Tally<'a>>, AllocError>
     ensures { IfOk result (λ found. found.items
-        ≡ filter (λ t. not (has_own_entry answers.now (tally_of t).contact)) contacts.now) }
+        ≡ filter (λ t. not (needs_own_entry shared.now answers.now (tally_of t).contact)) contacts.now) }
 {
-    contacts
-        .iter()
-        .copied()
-        .filter(|contact| !answers.has_own_entry(contact) && !answers.has_own_entry_in_git(contact))
-        .collect(alloc)
+    let mut found = Vec::new(alloc);
+    for contact in contacts {
+        if !needs_own_entry(shared, answers, contact) {
+            found.push(*contact)?;
+        }
+    }
+    Ok(found)
+}
+
+fn needs_own_entry<'a>(
+    shared: &SharedEmails<'a>,
+    answers: &Answers<'_, 'a>,
+    contact: &Tally<'a>,
+) -> bool
+    ensures { result ≡ needs_own_entry shared.now answers.now (tally_of contact.now).contact }
+{
+    answers.has_own_entry(contact)
+        || answers.has_own_entry_in_git(contact)
+        || shared.contains(answers.ours(contact).email)
 }
 
 // The entry without an old name that makes `to` the answer to contacts without entries of their own, `None` if it is

@@ -1,37 +1,87 @@
 //! Puts the contacts of a history into groups.
-ghost use Rattle.std.specs.Prelude.{◌≡◌, ◌++◌, [], All, IfOk, OnOk, bytes_eq, filter, map, not, option_to_list};
-ghost use Rattle.mailmap_entries.specs.Folding.{folded};
+ghost use Rattle.std.specs.Prelude.{◌≡◌, ◌++◌, [], All, IfOk, OnOk, bytes_eq, filter, length, map, not, option_to_list};
+ghost use Rattle.mailmap_entries.specs.Folding.{Text, folded};
+ghost use Rattle.mailmap_contacts.specs.Contacts.{Contact, Tally as ATally};
 ghost use Rattle.mailmap_contacts.specs.Answers.{tally_of};
-ghost use Rattle.mailmap_suggestions.specs.Private.{contacts_of, HasMembers, IsPart, grouped, has_key, keyed_by, keyed_of};
-ghost use Rattle.mailmap_suggestions.specs.Private.{shared_by, tallies_in, text_of};
+ghost use Rattle.mailmap_suggestions.specs.Private.{contacts_of, HasMembers, IsPart, grouped, has_key, keyed_by};
+ghost use Rattle.mailmap_suggestions.specs.Private.{keyed_of};
+ghost use Rattle.mailmap_suggestions.specs.Private.{tallies_in, text_of};
+ghost use Rattle.mailmap_suggestions.specs.Suggestions.{email_key};
 ghost use Rattle.mailmap_suggestions.specs.Forms.{distinct, of_old_email};
-ghost use Rattle.mailmap_suggestions.specs.GroupEntries.{contacts, groups};
+ghost use Rattle.mailmap_suggestions.specs.GroupEntries.{are_alike, contacts, groups};
 
 use crate::answers::Answers;
 use mailmap_contacts::answers::Tally;
 use mailmap_contacts::folded::Folded;
-use mailmap_contacts::proper::{Shared, has_text};
+use mailmap_contacts::proper::has_text;
 use std::alloc::{AllocError, Global};
 use std::collections::BTreeMap;
 
 /// Contacts in groups.
 pub(crate) type Groups<'a> = Vec<Vec<Tally<'a>>>;
 
-/// The contacts whose answers share an email or a name, ASCII case aside, unless this library and git answer all of
-/// them alike. So a group may be one contact that git answers otherwise. In the order of their first members.
-pub(crate) fn groups_of<'a>(
+/// The contacts whose answers share an email, ASCII case aside, unless this library and git answer all of them alike.
+/// So a group may be one contact that git answers otherwise. In the order of their first members.
+pub(crate) fn groups_by_email<'a>(
     alloc: Global,
     answers: &Answers<'_, 'a>,
-    shared: Shared,
     contacts: &[Tally<'a>],
 ) -> Result<Groups<'a>, AllocError>
     ensures { IfOk result (λ found. map tallies_in found.items
-        ≡ groups (shared_by shared) answers.now (map tally_of contacts.now)) }
+        ≡ groups email_key answers.now (map tally_of contacts.now)) }
 {
-    let sharing = by_shared(alloc, answers, shared, contacts)?;
-    let mut groups = grouped(alloc, &sharing)?;
-    groups.retain(|group| !answers.are_alike(group.as_slice()));
+    let by_email = by_email(alloc, answers, contacts)?;
+    let mut groups = grouped(alloc, &by_email)?;
+    keep_unlike(answers, &mut groups);
     Ok(groups)
+}
+
+/// The contacts whose answers have one class, unless this library and git answer all of them alike. `classes` are those
+/// of the contacts' answers; a contact with an empty one is in no group. In the order of their first members.
+pub(crate) fn groups_by_class<'a>(
+    alloc: Global,
+    answers: &Answers<'_, 'a>,
+    contacts: &[Tally<'a>],
+    classes: &[Vec<u8>],
+) -> Result<Groups<'a>, AllocError>
+    requires { length classes.now ≡ length contacts.now }
+    ensures { (class : Contact → Text) → map (λ v. folded v.items) classes.now
+        ≡ map (text_of class answers.now) (map tally_of contacts.now)
+        → IfOk result (λ found. map tallies_in found.items ≡ groups class answers.now (map tally_of contacts.now)) }
+{
+    let by_class = by_class(alloc, contacts, classes)?;
+    let mut groups = grouped(alloc, &by_class)?;
+    keep_unlike(answers, &mut groups);
+    Ok(groups)
+}
+
+// The contacts that have a class, by that.
+fn by_class<'k, 'a>(
+    alloc: Global,
+    contacts: &[Tally<'a>],
+    classes: &'k [Vec<u8>],
+) -> Result<Vec<(Folded<'k>, Tally<'a>)>, AllocError>
+    requires { length classes.now ≡ length contacts.now }
+    ensures { (text : ATally → Text) → map (λ v. folded v.items) classes.now ≡ map text (map tally_of contacts.now)
+        → IfOk result (λ keyed. map keyed_of keyed.items
+        ≡ keyed_by text (filter (λ t. not (bytes_eq (text t) [])) (map tally_of contacts.now))) }
+{
+    let mut keyed = Vec::new(alloc);
+    for (index, contact) in contacts.iter().enumerate() {
+        let text = classes[index].as_slice();
+        if has_text(text) {
+            keyed.push((Folded { text }, *contact))?;
+        }
+    }
+    Ok(keyed)
+}
+
+// Drops the groups that this library and git answer alike.
+fn keep_unlike<'a>(answers: &Answers<'_, 'a>, groups: &mut Groups<'a>)
+    ensures { map tallies_in groups.new.items
+        ≡ filter (λ g. not (are_alike answers.now (contacts g))) (map tallies_in groups.old.items) }
+{
+    groups.retain(|group| !answers.are_alike(group.as_slice()));
 }
 
 /// The contacts of a group by their old emails, ASCII case aside, in the order of first occurrence.
@@ -53,40 +103,32 @@ pub(crate) fn by_old_email<'a>(alloc: Global, group: &[Tally<'a>]) -> Result<Gro
     grouped(alloc, &keyed)
 }
 
-// The contacts whose answers have a text to share, by that text.
-fn by_shared<'a>(
+// The contacts whose answers have an email, by that.
+fn by_email<'a>(
     alloc: Global,
     answers: &Answers<'_, 'a>,
-    shared: Shared,
     contacts: &[Tally<'a>],
 ) -> Result<Vec<(Folded<'a>, Tally<'a>)>, AllocError>
-    ensures { IfOk result (λ sharing. map keyed_of sharing.items
-        ≡ keyed_by (text_of (shared_by shared) answers.now)
-        (filter (λ t. not (bytes_eq (text_of (shared_by shared) answers.now t) [])) (map tally_of contacts.now))) }
+    ensures { IfOk result (λ keyed. map keyed_of keyed.items
+        ≡ keyed_by (text_of email_key answers.now)
+        (filter (λ t. not (bytes_eq (text_of email_key answers.now t) [])) (map tally_of contacts.now))) }
 {
-    let mut sharing = Vec::new(alloc);
+    let mut keyed = Vec::new(alloc);
     for contact in contacts {
-        let text = shared_text(shared, &answers.ours(contact));
+        let text = answers.ours(contact).email;
         if has_text(text) {
-            sharing.push((Folded { text }, *contact))?;
+            keyed.push((Folded { text }, *contact))?;
         }
     }
-    Ok(sharing)
-}
-
-// What an answer shares with others. Without an email it shares no name: then this is the email, which is empty.
-fn shared_text<'a>(shared: Shared, answer: &Tally<'a>) -> &'a [u8]
-    ensures { folded result.now ≡ shared_by shared (tally_of answer.now).contact }
-{
-    match shared {
-        Shared::Name if has_text(answer.email) => answer.name,
-        _ => answer.email,
-    }
+    Ok(keyed)
 }
 
 // A group for each key, in the order of first occurrence: `remove` returns the group at the first contact with its key,
 // and nothing at later ones.
-fn grouped<'a>(alloc: Global, keyed: &[(Folded<'a>, Tally<'a>)]) -> Result<Groups<'a>, AllocError>
+fn grouped<'k, 'a>(
+    alloc: Global,
+    keyed: &[(Folded<'k>, Tally<'a>)],
+) -> Result<Groups<'a>, AllocError>
     ensures { IfOk result (λ groups. map tallies_in groups.items ≡ grouped (map keyed_of keyed.now)) }
 {
     let mut by_key = by_key(alloc, keyed)?;
@@ -106,10 +148,10 @@ fn push_group<'a>(groups: &mut Groups<'a>, group: Option<Vec<Tally<'a>>>) -> Res
     Ok(())
 }
 
-fn by_key<'a>(
+fn by_key<'k, 'a>(
     alloc: Global,
-    keyed: &[(Folded<'a>, Tally<'a>)],
-) -> Result<BTreeMap<Folded<'a>, Vec<Tally<'a>>>, AllocError>
+    keyed: &[(Folded<'k>, Tally<'a>)],
+) -> Result<BTreeMap<Folded<'k>, Vec<Tally<'a>>>, AllocError>
     ensures { IfOk result (HasMembers (has_key (map keyed_of keyed.now)) (map keyed_of keyed.now)) }
 {
     let mut groups = BTreeMap::new(alloc);

@@ -67,6 +67,16 @@ impl<'a> Histories<'a> {
         Ok(histories)
     }
 
+    /// The same again, so that entries can be added to one of both.
+    pub(crate) fn copy(&self, alloc: Global) -> Result<Histories<'a>, AllocError>
+        ensures { IfOk result (λ copy. copy ≡ self.now) }
+    {
+        Ok(Histories {
+            ours: self.ours.copy(alloc)?,
+            gits: self.gits.copy(alloc)?,
+        })
+    }
+
     /// Appends entries that both have, but none that maps nothing.
     pub(crate) fn add(&mut self, more: &[Entry<'a>]) -> Result<(), AllocError>
         ensures { OnOk result (self.new ≡ plus self.old (accepted (map mapping_of more.now))) }
@@ -86,6 +96,14 @@ impl<'a> History<'a> {
         History {
             entries: Vec::new(alloc),
         }
+    }
+
+    fn copy(&self, alloc: Global) -> Result<History<'a>, AllocError>
+        ensures { IfOk result (λ copy. copy ≡ self.now) }
+    {
+        Ok(History {
+            entries: Vec::from_slice(alloc, &self.entries)?,
+        })
     }
 
     /// What answers as these entries do.

@@ -1,6 +1,6 @@
 //! Laws of answers when entries are appended. These functions do nothing: the contract of each is a law.
 ghost use Rattle.std.specs.List.{AllByRecursion, flat_map};
-ghost use Rattle.std.specs.Prelude.{◌≡◌, ◌⊎◌, ◌++◌, ◌∷◌, [], ℕ, Bool, IsSome, List, None, Ok, Some, true};
+ghost use Rattle.std.specs.Prelude.{◌≡◌, ◌≢◌, ◌⊎◌, ◌++◌, ◌∷◌, [], ℕ, Bool, IsSome, List, None, Ok, Some, false, true};
 ghost use Rattle.mailmap_entries.specs.Entries.{Mapping, mapping};
 ghost use Rattle.mailmap_entries.specs.Folding.{Text, folded};
 ghost use Rattle.mailmap_entries.specs.Semantics.{is_accepted, key, last, last_fields, spelling};
@@ -10,12 +10,19 @@ ghost use Rattle.mailmap_findings.specs.GitAnswers.{git_mappings};
 ghost use Rattle.mailmap_grammar.specs.CanonicalText.{IsWritable};
 ghost use Rattle.mailmap_grammar.specs.Lines.{HoldsNo, mappings_of, reading, strict_reading};
 ghost use Rattle.mailmap_suggestions.specs.Appending.{ends_line};
-ghost use Rattle.mailmap_suggestions.specs.Forms.{Histories, IsAnswered, Stays, alike, own_key};
-ghost use Rattle.mailmap_suggestions.specs.Suggestions.{suggestions};
-ghost use Rattle.mailmap_suggestions.specs.SuggestedText.{count_line, entry_line, feed_unless, reviewed_text};
-ghost use Rattle.mailmap_suggestions.specs.SuggestedText.{mark, suggested_text, suggestions_text};
-ghost use Rattle.mailmap_suggestions.specs.GroupEntries.{AllAgree, HasNoEmptyName, IsWritableContact, Unites, contacts};
-ghost use Rattle.mailmap_suggestions.specs.GroupEntries.{email_entries, email_shared, name_entries, name_shared};
+ghost use Rattle.mailmap_suggestions.specs.Counted.{counted_answers};
+ghost use Rattle.mailmap_suggestions.specs.Forms.{Histories, IsAnswered, Stays, alike, is_shared, own_key};
+ghost use Rattle.mailmap_suggestions.specs.GroupEntries.{AllAgree, HasNoEmptyName, IsMostFrequent, IsWritableContact};
+ghost use Rattle.mailmap_suggestions.specs.GroupEntries.{NoneCut, NoneCutIf, Unites, UnitesAlone, all_entries};
+ghost use Rattle.mailmap_suggestions.specs.GroupEntries.{candidates, contacts, email_class, email_entries, only};
+ghost use Rattle.mailmap_suggestions.specs.GroupEntries.{proper_answer, uncut, uncut_email_class, with_classes};
+ghost use Rattle.mailmap_suggestions.specs.GroupEntries.{with_emails};
+ghost use Rattle.mailmap_suggestions.specs.LinkedClasses.{AreLoginClasses, AreNameClasses};
+ghost use Rattle.mailmap_suggestions.specs.Needed.{EachNeeded};
+ghost use Rattle.mailmap_suggestions.specs.Suggestions.{GroupClasses, Suggestion, new_entries, suggestions};
+ghost use Rattle.mailmap_suggestions.specs.SuggestedText.{count_line, entry_line, feed_unless, mark, suggestions_text};
+ghost use Rattle.mailmap_suggestions.specs.Written.{ContactHoldsNoZero, HoldsNoZero, IsWritableSuggestion};
+ghost use Rattle.mailmap_suggestions.specs.Written.{selected_text, text_with, unmarked_entries};
 
 /// An entry with an old name changes only answers to contacts with its key, if there is an entry for its email before.
 /// An entry without one changes only answers to contacts with its email that have no entry of their own.
@@ -53,7 +60,7 @@ pub fn law_linked()
 {}
 
 /// If git reads each line of mailmaps as this library does, both have the same entries. No new name that is read is
-/// empty. So the next law holds for such mailmaps.
+/// empty. So the next laws hold for such mailmaps.
 #[tactic(auto, using(mailmap_findings::proofs::Pruned::same_histories, crate::proofs::United::lines_named))]
 pub fn law_read_alike()
     ensures histories { (buffers : List Text) → first_read_otherwise buffers ≡ None
@@ -61,17 +68,105 @@ pub fn law_read_alike()
     ensures names { (buffers : List Text) → AllByRecursion HasNoEmptyName (flat_map mappings_of buffers) }
 {}
 
-/// With mailmaps that git reads as this library does, the suggested entries do what they are for. With those of the
-/// first kind appended, no two answers share an email and differ; with those of the second kind, too, no two share a
-/// name, either. Contacts in no group are answered as before, and git answers the same.
-#[tactic(auto, using(crate::proofs::United::unites_emails, crate::proofs::United::unites_names, crate::proofs::United::emails_stay))]
+/// git reads a line up to a zero byte, so no text of an entry that it reads holds one. Nor does a name or an email of a
+/// contact on lines without zero bytes.
+#[tactic(auto, using(crate::proofs::NoZero::all_read_zero, crate::proofs::NoZero::contacts_zero))]
+pub fn law_no_zero()
+    ensures mappings { (buffers : List Text) → AllByRecursion HoldsNoZero (flat_map git_mappings buffers) }
+    ensures contacts { (lines : List Text) → AllByRecursion (HoldsNo 0) lines
+        → AllByRecursion (λ t. ContactHoldsNoZero t.contact) (contacts_from 1 lines) }
+{}
+
+/// The entries for emails, whichever emails are shared. All contacts whose answers have one email get the proper one
+/// of these answers, by this library and by git. Others are answered as before: those whose answer has no email, one
+/// that several people share, or one for which git would cut a line. So nobody at a shared address changes. Two
+/// contacts get one answer only if their answers had one email, ASCII case aside. The one premise is that of mailmaps
+/// that are read: no new name is empty.
 pub fn law_suggestions()
-    ensures emails { (h : List Mapping) (ts : List Tally) → AllByRecursion HasNoEmptyName h
-        → Unites email_shared h ts (h ++ email_entries (alike h) ts) }
-    ensures names { (h : List Mapping) (ts : List Tally) → AllByRecursion HasNoEmptyName h
-        → let g = h ++ email_entries (alike h) ts in Unites name_shared g ts (g ++ name_entries (alike h) ts) }
-    ensures emails_stay { (h : List Mapping) (ts : List Tally) → AllByRecursion HasNoEmptyName h
-        → AllAgree email_shared ((h ++ email_entries (alike h) ts) ++ name_entries (alike h) ts) (contacts ts) }
+    ensures emails { (shared : List Text) (h : List Mapping) (ts : List Tally) → AllByRecursion HasNoEmptyName h
+        → Unites shared (uncut_email_class shared h ts) h ts (with_emails shared h ts) }
+    ensures others { (shared : List Text) (h : List Mapping) (ts : List Tally) → AllByRecursion HasNoEmptyName h
+        → AllByRecursion (λ c. uncut_email_class shared h ts (answer_to h c) ≡ []
+        → Stays h (email_entries shared (alike h) ts) c) (contacts ts) }
+    ensures at_shared { (shared : List Text) (h : List Mapping) (ts : List Tally) → AllByRecursion HasNoEmptyName h
+        → AllByRecursion (λ c. is_shared shared (answer_to h c).email ≡ true
+        → Stays h (email_entries shared (alike h) ts) c) (contacts ts) }
+    ensures joined { (shared : List Text) (h : List Mapping) (ts : List Tally) → AllByRecursion HasNoEmptyName h
+        → let g = with_emails shared h ts in
+        AllByRecursion (λ b. AllByRecursion (λ c. answer_to g b ≡ answer_to g c
+        → folded (answer_to h b).email ≡ folded (answer_to h c).email) (contacts ts)) (contacts ts) }
+{}
+
+/// The entries for alike names, after those for emails: for each selection of whole groups, which a test of their
+/// classes makes. All contacts of these groups get the proper answer of their group, by this library and by git, and
+/// others are answered as without them. No two answers have one email that one person has, and differ, then either.
+/// Beside what `law_suggestions` needs, git would cut no line for the email of an answer with a class that passes.
+pub fn law_selected()
+    ensures united { (shared : List Text) (h : List Mapping) (ts : List Tally) (class : Contact → Text)
+        (passes : Text → Bool) → AllByRecursion HasNoEmptyName h
+        → let g = with_emails shared h ts in AreNameClasses shared g ts class
+        → NoneCutIf (λ c. only passes class (answer_to g c) ≢ []) shared (email_class shared) h ts
+        → Unites shared (uncut shared (only passes class) (alike g) (alike g) ts) g ts
+        (with_classes shared (only passes class) g ts) }
+    ensures emails_stay { (shared : List Text) (h : List Mapping) (ts : List Tally) (class : Contact → Text)
+        (passes : Text → Bool) → AllByRecursion HasNoEmptyName h
+        → let g = with_emails shared h ts in AreNameClasses shared g ts class
+        → NoneCutIf (λ c. only passes class (answer_to g c) ≢ []) shared (email_class shared) h ts
+        → AllAgree (uncut_email_class shared h ts) (with_classes shared (only passes class) g ts) (contacts ts) }
+{}
+
+/// The entries for answers that logins link: the groups are those of the answers with all entries for alike names,
+/// none of which anybody has to accept. For each selection of whole groups, all contacts of these groups get the
+/// proper answer of their group, by this library and by git, and others are answered as with the entries for emails.
+/// Git would cut no line for an email, or for alike names.
+pub fn law_selected_alone()
+    ensures { (shared : List Text) (h : List Mapping) (ts : List Tally) (class next : Contact → Text)
+        (passes : Text → Bool) → AllByRecursion HasNoEmptyName h → NoneCut shared (email_class shared) h ts
+        → let g = with_emails shared h ts in AreNameClasses shared g ts class → NoneCut shared class g ts
+        → let f = with_classes shared class g ts in AreLoginClasses shared f ts next
+        → UnitesAlone shared (uncut shared (only passes next) (alike g) (alike f) ts) g f ts
+        (g ++ all_entries shared (only passes next) (alike g) (alike f) ts) }
+{}
+
+/// The entries for answers that logins link, after those for any selection of whole groups by name: all contacts of the
+/// selected groups by login get the proper answer of their group, by this library and by git, and others are answered
+/// as with the selected groups by name alone, which `law_selected` is about. The premises are those of
+/// `law_selected_alone`.
+pub fn law_selected_together()
+    ensures { (shared : List Text) (h : List Mapping) (ts : List Tally) (class next : Contact → Text)
+        (passes next_passes : Text → Bool) → AllByRecursion HasNoEmptyName h → NoneCut shared (email_class shared) h ts
+        → let g = with_emails shared h ts in AreNameClasses shared g ts class → NoneCut shared class g ts
+        → let f = with_classes shared class g ts in AreLoginClasses shared f ts next
+        → let s = with_classes shared (only passes class) g ts in
+        UnitesAlone shared (uncut shared (only next_passes next) (alike g) (alike f) ts) s f ts
+        (s ++ all_entries shared (only next_passes next) (alike g) (alike f) ts) }
+{}
+
+/// Each suggested entry is needed: without it, some contact of a group that has it doesn't get the group's proper
+/// answer, by this library or by git. The premises are those of the laws before.
+pub fn law_each_needed()
+    ensures emails { (shared : List Text) (h : List Mapping) (ts : List Tally) → AllByRecursion HasNoEmptyName h
+        → EachNeeded shared (uncut_email_class shared h ts) h h ts (email_entries shared (alike h) ts) }
+    ensures names { (shared : List Text) (h : List Mapping) (ts : List Tally) (class : Contact → Text)
+        (passes : Text → Bool) → AllByRecursion HasNoEmptyName h
+        → let g = with_emails shared h ts in AreNameClasses shared g ts class
+        → NoneCutIf (λ c. only passes class (answer_to g c) ≢ []) shared (email_class shared) h ts
+        → EachNeeded shared (uncut shared (only passes class) (alike g) (alike g) ts) g g ts
+        (all_entries shared (only passes class) (alike g) (alike g) ts) }
+    ensures logins { (shared : List Text) (h : List Mapping) (ts : List Tally) (class next : Contact → Text)
+        (passes : Text → Bool) → AllByRecursion HasNoEmptyName h → NoneCut shared (email_class shared) h ts
+        → let g = with_emails shared h ts in AreNameClasses shared g ts class → NoneCut shared class g ts
+        → let f = with_classes shared class g ts in AreLoginClasses shared f ts next
+        → EachNeeded shared (uncut shared (only passes next) (alike g) (alike f) ts) g f ts
+        (all_entries shared (only passes next) (alike g) (alike f) ts) }
+{}
+
+/// The proper answer of contacts is a most frequent one of those that may be proper: those with a name and an email
+/// that one person has, or those with a name if there are none, or all if there are none of these, either.
+#[tactic(auto, using(crate::proofs::United::proper_frequent))]
+pub fn law_proper_answer()
+    ensures { (shared : List Text) (h : List Mapping) (g : List Tally) → g ≢ []
+        → IsMostFrequent (candidates shared (counted_answers (alike h) g)) (proper_answer shared (alike h) g) }
 {}
 
 /// The line of a suggested entry is read as the entry if a line can hold it, and as a comment with its mark. What says
@@ -83,21 +178,45 @@ pub fn law_suggested_lines()
     ensures count { (n count : ℕ) (is_gits : Bool) (c : Contact) → reading n (count_line is_gits count c) ≡ None }
 {}
 
-/// The text of suggestions is read as the entries for emails, and with its marks deleted as all entries. This holds for
-/// mappings and contacts that are read from lines, since lines can hold them. It is what suggestions are as text, one
-/// after another.
-#[tactic(auto, using(crate::proofs::United::suggested_said, crate::proofs::United::reviewed_said, mailmap_snapshot::proofs::WritableLines::all_read, crate::proofs::United::lines_writable, crate::proofs::Forms::suggestions_said))]
+/// Whichever of some suggestions have marks before their lines, their text is read as the entries of the others, if
+/// lines can hold the suggestions. What is suggested for mappings and contacts that are read from lines is read as the
+/// entries for emails, whatever the classes and the remembered lines are; and with the marks deleted of some groups
+/// for alike names, as the entries for emails and those of these groups that no line remembers. Git reads both as the
+/// same entries if no text of a mapping or of a contact holds a zero byte, at which git's reading of a line ends.
+/// With no marks deleted, the text is that of the suggestions.
 pub fn law_suggested_text()
-    ensures suggested { (h : List Mapping) (ts : List Tally) → AllByRecursion IsWritable h
+    ensures read { (is_marked : Suggestion → Bool) (found : List Suggestion)
+        → AllByRecursion (λ s. IsWritableSuggestion (is_marked s) s) found
+        → mappings_of (text_with is_marked found) ≡ unmarked_entries is_marked found }
+    ensures emails { (shared : List Text) (classes : GroupClasses) (seen : List Text) (h : List Mapping)
+        (ts : List Tally) → AllByRecursion IsWritable h → AllByRecursion (λ t. IsWritableContact t.contact) ts
+        → mappings_of (suggestions_text (suggestions shared classes seen (alike h) ts))
+        ≡ email_entries shared (alike h) ts }
+    ensures gits { (shared : List Text) (classes : GroupClasses) (seen : List Text) (h : List Mapping)
+        (ts : List Tally) → AllByRecursion IsWritable h → AllByRecursion (λ t. IsWritableContact t.contact) ts
+        → AllByRecursion HoldsNoZero h → AllByRecursion (λ t. ContactHoldsNoZero t.contact) ts
+        → git_mappings (suggestions_text (suggestions shared classes seen (alike h) ts))
+        ≡ email_entries shared (alike h) ts }
+    ensures selected { (shared : List Text) (classes : GroupClasses) (passes : Text → Bool) (seen : List Text)
+        (h : List Mapping) (ts : List Tally) → AllByRecursion IsWritable h
         → AllByRecursion (λ t. IsWritableContact t.contact) ts
-        → mappings_of (suggested_text (alike h) ts) ≡ email_entries (alike h) ts }
-    ensures reviewed { (h : List Mapping) (ts : List Tally) → AllByRecursion IsWritable h
+        → let g = with_emails shared h ts in AreNameClasses shared g ts classes.by_name
+        → mappings_of (selected_text shared classes passes seen (alike h) ts) ≡ email_entries shared (alike h) ts
+        ++ new_entries seen (all_entries shared (only passes classes.by_name) (alike g) (alike g) ts) }
+    ensures selected_gits { (shared : List Text) (classes : GroupClasses) (passes : Text → Bool) (seen : List Text)
+        (h : List Mapping) (ts : List Tally) → AllByRecursion IsWritable h
         → AllByRecursion (λ t. IsWritableContact t.contact) ts
-        → mappings_of (reviewed_text (alike h) ts) ≡ email_entries (alike h) ts ++ name_entries (alike h) ts }
+        → AllByRecursion HoldsNoZero h → AllByRecursion (λ t. ContactHoldsNoZero t.contact) ts
+        → let g = with_emails shared h ts in AreNameClasses shared g ts classes.by_name
+        → git_mappings (selected_text shared classes passes seen (alike h) ts) ≡ email_entries shared (alike h) ts
+        ++ new_entries seen (all_entries shared (only passes classes.by_name) (alike g) (alike g) ts) }
+    ensures none_selected { (shared : List Text) (classes : GroupClasses) (seen : List Text) (h : Histories)
+        (ts : List Tally)
+        → selected_text shared classes (λ _. false) seen h ts
+        ≡ suggestions_text (suggestions shared classes seen h ts) }
     ensures mappings { (buffers : List Text) → AllByRecursion IsWritable (flat_map mappings_of buffers) }
     ensures contacts { (lines : List Text) → AllByRecursion (HoldsNo 10) lines
         → AllByRecursion (λ t. IsWritableContact t.contact) (contacts_from 1 lines) }
-    ensures printed { (h : Histories) (ts : List Tally) → suggestions_text (suggestions h ts) ≡ suggested_text h ts }
 {}
 
 /// A text after one that is empty or ends with a line feed is read as both, one after the other, by this library and

@@ -1,12 +1,21 @@
 //! Which lines a mailmap lacks for the contacts of a history. An internal crate of `gix_mailmap`.
 #![tactic(auto)]
 
-pub mod answers;
+mod answers;
 mod changes;
+mod classes;
 mod counted;
 mod entries;
+pub mod findings;
 mod groups;
 mod histories;
+mod holders;
+pub mod kinds;
 pub mod laws;
+mod links;
+mod members;
+mod remembered;
+mod shared;
+pub mod shortened;
 pub mod suggestions;
 pub mod text;

@@ -1,20 +1,26 @@
 //! The text of suggestions.
-ghost use Rattle.std.specs.Prelude.{◌≡◌, ◌++◌, ◌∷◌, [], OnOk, Some, map, unwrap_or};
+ghost use Rattle.std.specs.Prelude.{◌≡◌, ◌++◌, ◌∷◌, [], OnOk, Some, if◌then◌else◌, map, nat_lt, unwrap_or};
 ghost use Rattle.std.specs.Option.{option_copied};
 ghost use Rattle.mailmap_contacts.specs.Answers.{tally_of};
 ghost use Rattle.mailmap_entries.specs.Entries.{mapping_of};
 ghost use Rattle.mailmap_entries.specs.Semantics.{last};
 ghost use Rattle.mailmap_grammar.specs.Lines.{is_comment};
-ghost use Rattle.mailmap_suggestions.specs.SuggestedText.{count_line, count_lines, entry_line, entry_lines, feed_after};
-ghost use Rattle.mailmap_suggestions.specs.SuggestedText.{feed_unless, fields_text, mark, suggestion_text};
-ghost use Rattle.mailmap_suggestions.specs.Views.{suggestion_of};
+ghost use Rattle.mailmap_suggestions.specs.SuggestedText.{comments, count_line, count_lines, cut_lines, entry_line};
+ghost use Rattle.mailmap_suggestions.specs.SuggestedText.{entry_lines};
+ghost use Rattle.mailmap_suggestions.specs.SuggestedText.{feed_after};
+ghost use Rattle.mailmap_suggestions.specs.SuggestedText.{feed_unless, fields_text, kind_lines, mark, suggestion_text};
+ghost use Rattle.mailmap_suggestions.specs.EntryLines.{is_cut_by_git};
+ghost use Rattle.mailmap_suggestions.specs.Shortened.{shortened};
+ghost use Rattle.mailmap_suggestions.specs.Suggestions.{needs_review};
+ghost use Rattle.mailmap_suggestions.specs.Views.{kind_of, suggestion_of};
 
+use crate::kinds::Kind;
+use crate::shortened::{push_short_contact, push_shortened};
 use crate::suggestions::Suggestion;
 use itoa::Buffer;
 use mailmap_contacts::answers::Tally;
 use mailmap_entries::Entry;
-use mailmap_grammar::writing::{push_email, push_name};
-use mailmap_snapshot::check::push_contact;
+use mailmap_grammar::writing::{len_with_line, push_email, push_name};
 use std::alloc::AllocError;
 
 /// The line feed that has to come before the text of suggestions, if there are any: none if the last mailmap is empty
@@ -26,6 +32,36 @@ pub fn feed_after(buffers: &[&[u8]]) -> &'static [u8]
         Some(buffer) => missing_feed(buffer),
         None => b"",
     }
+}
+
+/// Appends the lines of a suggestion: what its answers have in common, how often each comes, the entries, and an empty
+/// line.
+///
+/// ```text
+/// # alike
+/// # 2 Jane Doe <jane@x>
+/// # 1 Doe, Jane <jane@z>
+/// #?Jane Doe <jane@x> <jane@z>
+///
+/// ```
+pub fn push_suggestion(out: &mut Vec<u8>, suggestion: &Suggestion<'_>) -> Result<(), AllocError>
+    ensures { OnOk result (out.new.items ≡ out.old.items
+        ++ suggestion_text (needs_review (kind_of suggestion.now.kind)) (suggestion_of suggestion.now)) }
+{
+    push_comments(out, suggestion)?;
+    let needs_review = suggestion.kind.needs_review();
+    push_entries(out, suggestion.entries.as_slice(), needs_review)?;
+    out.push(b'\n')?;
+    Ok(())
+}
+
+fn push_comments(out: &mut Vec<u8>, suggestion: &Suggestion<'_>) -> Result<(), AllocError>
+    ensures { OnOk result (out.new.items ≡ out.old.items ++ comments (suggestion_of suggestion.now)) }
+{
+    push_cut(out, suggestion.is_cut)?;
+    push_kind(out, suggestion.kind)?;
+    push_counts(out, suggestion.answers.as_slice(), false)?;
+    push_counts(out, suggestion.git_answers.as_slice(), true)
 }
 
 // A line feed, if a text isn't empty and doesn't end with one.
@@ -44,21 +80,31 @@ fn feed_unless(last: u8) -> &'static [u8]
     if last == b'\n' { b"" } else { b"\n" }
 }
 
-/// Appends the lines of a suggestion: how often each answer comes, the entries, and an empty line.
-///
-/// ```text
-/// # 2 Jane Doe <jane@x>
-/// # 1 jane <jane@z>
-/// #?Jane Doe <jane@x> <jane@z>
-///
-/// ```
-pub fn push_suggestion(out: &mut Vec<u8>, suggestion: &Suggestion<'_>) -> Result<(), AllocError>
-    ensures { OnOk result (out.new.items
-        ≡ out.old.items ++ suggestion_text suggestion.now.needs_review (suggestion_of suggestion.now)) }
+fn push_cut(out: &mut Vec<u8>, is_cut: bool) -> Result<(), AllocError>
+    ensures { OnOk result (out.new.items ≡ out.old.items ++ cut_lines is_cut) }
 {
-    push_counts(out, suggestion.answers.as_slice(), false)?;
-    push_counts(out, suggestion.git_answers.as_slice(), true)?;
-    push_entries(out, suggestion.entries.as_slice(), suggestion.needs_review)?;
+    if is_cut {
+        out.extend_from_slice(b"# too long for git\n")?;
+    }
+    Ok(())
+}
+
+fn push_kind(out: &mut Vec<u8>, kind: Kind<'_>) -> Result<(), AllocError>
+    ensures { OnOk result (out.new.items ≡ out.old.items ++ kind_lines (kind_of kind.entry)) }
+{
+    match kind {
+        Kind::SharedEmail(email) => push_head(out, b"# several people may share ", email),
+        Kind::Alike => out.extend_from_slice(b"# alike\n"),
+        Kind::Login(login) => push_head(out, b"# login ", login),
+        Kind::Email | Kind::Name => Ok(()),
+    }
+}
+
+fn push_head(out: &mut Vec<u8>, head: &[u8], text: &[u8]) -> Result<(), AllocError>
+    ensures { OnOk result (out.new.items ≡ out.old.items ++ (head.now ++ shortened text.now ++ 10 ∷ [])) }
+{
+    out.extend_from_slice(head)?;
+    push_shortened(out, text)?;
     out.push(b'\n')?;
     Ok(())
 }
@@ -101,15 +147,49 @@ pub fn push_entry(
     ensures { OnOk result (out.new.items
         ≡ out.old.items ++ mark needs_review ++ entry_line (mapping_of entry.now) ++ 10 ∷ []) }
 {
+    push_line(out, entry, needs_review)?;
+    out.push(b'\n')?;
+    Ok(())
+}
+
+/// The same without the line feed.
+pub(crate) fn push_line(
+    out: &mut Vec<u8>,
+    entry: &Entry<'_>,
+    needs_review: bool,
+) -> Result<(), AllocError>
+    ensures { OnOk result (out.new.items ≡ out.old.items ++ mark needs_review ++ entry_line (mapping_of entry.now)) }
+{
     if needs_review {
         out.extend_from_slice(b"#?")?;
     }
     if begins_comment(entry.new_name()) {
         out.push(b' ')?;
     }
-    push_fields(out, entry)?;
-    out.push(b'\n')?;
-    Ok(())
+    push_fields(out, entry)
+}
+
+/// Whether git would cut the line of an entry: it reads a line in pieces of 1,023 bytes, of which a line feed is one.
+#[tactic(auto, using(crate::proofs::Counting::cut_by, crate::proofs::Counting::cut_always))]
+pub(crate) fn is_cut_by_git(entry: &Entry<'_>) -> bool
+    ensures { result ≡ is_cut_by_git (mapping_of entry.now) }
+{
+    match len_with_line(0, entry) {
+        Some(len) => is_long(begins_comment(entry.new_name()), len),
+        None => true,
+    }
+}
+
+// Whether a line is too long. Its length is given with a space at the start, which it needs only if it begins as a
+// comment, and with a line feed.
+fn is_long(begins_comment: bool, len: usize) -> bool
+    ensures { result ≡ nat_lt (if begins_comment then 1023 else 1024) len }
+{
+    if begins_comment {
+        1023 < len
+    } else {
+        1024 < len
+    }
 }
 
 fn begins_comment(name: Option<&[u8]>) -> bool
@@ -150,7 +230,7 @@ pub fn push_count(
     out.extend_from_slice(b"# ")?;
     out.extend_from_slice(digits.format(count).as_bytes())?;
     out.push(b' ')?;
-    push_contact(out, name, email)?;
+    push_short_contact(out, name, email)?;
     if is_gits {
         out.extend_from_slice(b" by git")?;
     }

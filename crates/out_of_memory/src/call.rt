@@ -37,7 +37,7 @@ pub enum Call {
     Unneeded,
     CountContacts,
     Suggest,
-    OtherGitAnswers,
+    ContactFindings,
     PushEntry,
     PushCount,
     /// Calls that accept or write nothing and so don't allocate, and other calls that don't.

@@ -10,7 +10,7 @@ use gix_mailmap::Snapshot;
 use gix_mailmap::check::ContactStream;
 use gix_mailmap::snapshot::Signature;
 use mailmap_contacts::counter::Contacts;
-use mailmap_suggestions::answers::other_git_answers;
+use mailmap_suggestions::findings::contact_findings;
 use mailmap_suggestions::suggestions::suggest;
 use mailmap_suggestions::text::{push_count, push_entry};
 use std::alloc::{AllocError, Global};
@@ -99,11 +99,11 @@ fn answer_line(run: &mut Run, alloc: Global) {
     }
 }
 
-// Suggests lines for contacts, and finds those that git answers otherwise.
+// Suggests lines for contacts, and finds what is to be reported of them.
 fn suggest_lines(run: &mut Run, alloc: Global) {
     if let Some(mut contacts) = count_contacts(run, alloc) {
         run.judge(alloc, Call::Suggest, &mut contacts);
-        run.judge(alloc, Call::OtherGitAnswers, &mut contacts);
+        run.judge(alloc, Call::ContactFindings, &mut contacts);
     }
 }
 
@@ -111,7 +111,7 @@ impl Subject for Contacts {
     fn make(&mut self, alloc: Global, call: Call) -> Result<bool, AllocError> {
         match call {
             Call::Suggest => is_suggested(alloc, self),
-            Call::OtherGitAnswers => is_compared(alloc, self),
+            Call::ContactFindings => has_findings(alloc, self),
             _ => Ok(false),
         }
     }
@@ -122,8 +122,8 @@ fn is_suggested(alloc: Global, contacts: &Contacts) -> Result<bool, AllocError> 
     Ok(true)
 }
 
-fn is_compared(alloc: Global, contacts: &Contacts) -> Result<bool, AllocError> {
-    let _others = other_git_answers(alloc, &[TEAM, FAULTY], contacts)?;
+fn has_findings(alloc: Global, contacts: &Contacts) -> Result<bool, AllocError> {
+    let _findings = contact_findings(alloc, &[TEAM, FAULTY], contacts)?;
     Ok(true)
 }
 

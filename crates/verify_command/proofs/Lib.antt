@@ -1,4 +1,3 @@
 mod EachLine
 mod Failing
 mod Leaving
-mod Suggesting

@@ -4,16 +4,11 @@ use Rattle.std.specs.List.{list_any}
 use Rattle.std.specs.Result.{IsErr, IsErrOf}
 use Rattle.std.specs.declared.io.ErrorKind.{ErrorKind}
 use Rattle.mailmap_entries.specs.Folding.{Text}
-use Rattle.mailmap_contacts.specs.Comparisons.{AreContactFindings, ContactFinding}
-use Rattle.mailmap_contacts.specs.Contacts.{contacts_from, tallied}
 use Rattle.mailmap_findings.specs.Findings.{AreFindings, IsPruned, Finding, first_read_otherwise}
 use Rattle.mailmap_findings.specs.Positions.{whole_lines}
 use Rattle.mailmap_findings.specs.Remarks.{AreRemarks, Remark}
-use Rattle.mailmap_suggestions.specs.Counted.{other_git_answers}
-use Rattle.mailmap_suggestions.specs.Forms.{Histories}
-use Rattle.mailmap_suggestions.specs.Histories.{histories_of}
-use Rattle.mailmap_suggestions.specs.SuggestedText.{printed, suggestion_text}
-use Rattle.mailmap_suggestions.specs.Suggestions.{Suggestion, suggestions}
+use Rattle.mailmap_suggestions.specs.ContactFindings.{AreContactFindings, ContactFinding}
+use Rattle.mailmap_suggestions.specs.Printed.{IsSuggested}
 use Rattle.command_line.specs.Answering.{AnswersAll, AnswersAllRead, AnswersRead}
 use Rattle.command_line.specs.Failures.{IsOfFile}
 use Rattle.command_line.specs.declared.failure.Failure.{Failure}
@@ -100,14 +95,10 @@ abbrev pub IsReport : Wanted → List Text → Outcome → Text → Type 0
 IsReport w mailmaps outcome text = (findings : List Finding) × AreFindings mailmaps findings
     × Says outcome text (report_pieces w.choices (mailmap_names w.choices w.paths) findings)
 
--- the findings about the contacts on lines, with the entries of mailmaps as this library reads them and as git does
-abbrev pub AreFoundWith : Histories → List Text → List ContactFinding → Type 0
-AreFoundWith h lines found = AreContactFindings h.ours (other_git_answers h (tallied (contacts_from 1 lines))) lines found
-
 -- The text is the report of the mailmaps with these contacts, followed by the findings about the contacts.
 abbrev pub IsReportBeside : Wanted → List Text → Text → Outcome → Text → Type 0
 IsReportBeside w mailmaps contacts outcome text = (remarks : List Remark) × (found : List ContactFinding)
-    × AreRemarks mailmaps contacts remarks × AreFoundWith (histories_of mailmaps) (whole_lines contacts) found
+    × AreRemarks mailmaps contacts remarks × AreContactFindings mailmaps (whole_lines contacts) found
     × Says outcome text (pieces_beside w.choices (mailmap_names w.choices w.paths) (contacts_name w) remarks found)
 
 -- The text is the one mailmap without its lines that have no effect; git reads each of its lines alike.
@@ -132,20 +123,9 @@ abbrev pub WithContacts : (List Text → Text → Outcome → Text → Type 0) �
 WithContacts IsMade at input w =
     FromMailmaps (λ mailmaps. FromContacts (IsMade mailmaps) at w.contacts input) at input w
 
--- the lines of a suggestion, after a text; they are no finding
-abbrev pub suggestion_piece : Text → Suggestion → Piece
-suggestion_piece start s = record { text = start ++ suggestion_text s.needs_review s; counts = false }
-
--- one for each suggestion, the first after this text
-abbrev pub suggestion_pieces : Text → List Suggestion → List Piece
-suggestion_pieces start [] = []
-suggestion_pieces start (s ∷ rest) = suggestion_piece start s ∷ suggestion_pieces [] rest
-
 -- The text has the lines that the mailmaps lack for the contacts, and can be appended to the last mailmap.
 abbrev pub AreSuggested : List Text → Text → Outcome → Text → Type 0
-AreSuggested mailmaps lines outcome text =
-    let found = suggestions (histories_of mailmaps) (tallied (contacts_from 1 (whole_lines lines))) in
-    (text ≡ printed mailmaps found) × (outcome ≡ Clean)
+AreSuggested mailmaps lines outcome text = IsSuggested mailmaps (whole_lines lines) text × (outcome ≡ Clean)
 
 -- The text is made of explanations with the mailmaps in the files at these paths.
 abbrev pub ExplainsBy : (Text → AtPath) → List Text → ((Text → Text) → Text → Type 0) → Text → Type 0

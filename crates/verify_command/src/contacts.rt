@@ -1,13 +1,11 @@
 //! Counts contacts, and reports on them together with mailmaps, or suggests lines for them.
 ghost use Rattle.std.specs.Prelude.{◌≡◌, ◌⊎◌, IfErr, IfOk, OnOk, false, map, true};
 ghost use Rattle.std.specs.Io.KnownBytes.{IsAtEnd};
-ghost use Rattle.std.specs.Slice.Iter.{iter_rest};
 ghost use Rattle.bstr.specs.Text.{lines_of};
 ghost use Rattle.mailmap_entries.specs.Folding.{Text};
 ghost use Rattle.mailmap_contacts.specs.Counts.{AreContactsOf};
-ghost use Rattle.mailmap_suggestions.specs.Views.{suggestion_of};
 ghost use Rattle.verify_command.specs.Task.{AreContacts, AreLog, AreSuggested, EndsPrinting, FailsForContacts, FromContacts};
-ghost use Rattle.verify_command.specs.Task.{IsReportBeside, Leaves, is_dash, suggestion_pieces, wanted_of};
+ghost use Rattle.verify_command.specs.Task.{IsReportBeside, Leaves, is_dash, wanted_of};
 
 use crate::asked::Request;
 use crate::failure::TaskFailure;
@@ -16,19 +14,18 @@ use command_line::failure::Failure;
 use command_line::files::FileSystem;
 use command_line::outcome::Outcome;
 use contact_input::counting::count_contacts;
-use mailmap_contacts::answers::{add_to_needs, answers_to};
-use mailmap_contacts::comparisons::findings_of;
+use mailmap_contacts::answers::add_to_needs;
 use mailmap_contacts::counter::Contacts;
 use mailmap_findings::needs::Needs;
 use mailmap_findings::remarks::Remarks;
 use mailmap_findings::verify::{Mailmaps, Verification};
-use mailmap_report::pieces::{Piece, Pieces, PiecesBeside};
-use mailmap_suggestions::answers::other_git_answers;
-use mailmap_suggestions::suggestions::{Suggestion, suggest};
-use mailmap_suggestions::text::{feed_after, push_suggestion};
-use std::alloc::{AllocError, Global};
+use mailmap_report::pieces::PiecesBeside;
+use mailmap_report::suggested::SuggestionPieces;
+use mailmap_suggestions::findings::contact_findings;
+use mailmap_suggestions::suggestions::suggest;
+use mailmap_suggestions::text::feed_after;
+use std::alloc::Global;
 use std::io::{Read, Write};
-use std::slice;
 
 /// Reads the contacts, and prints the findings in the mailmaps in buffers and in them, and the lines that none needs.
 pub(crate) fn report_contacts<F: FileSystem, R: Read, W: Write>(
@@ -51,7 +48,7 @@ pub(crate) fn report_contacts<F: FileSystem, R: Read, W: Write>(
     print_report(alloc, request, buffers, &counted, output)
 }
 
-/// Reads the contacts, and prints the lines that the mailmaps in buffers lack for them, to be appended to the last one.
+/// Reads the contacts, and prints the lines that the mailmaps in buffers lack for them.
 pub(crate) fn suggest_lines<F: FileSystem, R: Read, W: Write>(
     system: &F,
     alloc: Global,
@@ -119,18 +116,11 @@ fn print_report<W: Write>(
     ensures only { IfErr result EndsPrinting }
 {
     // First, so that what it looks up is freed before the rest is built.
-    let git_answers = other_git_answers(alloc, buffers, counted)?;
+    let findings = contact_findings(alloc, buffers, counted)?;
     let mailmaps = Mailmaps::read(alloc, buffers)?;
     let mut needs = Needs::new(alloc, &mailmaps)?;
     add_to_needs(counted, &mut needs);
     let unneeded = needs.unneeded(alloc)?;
-    let answers = answers_to(alloc, counted, &needs)?;
-    let findings = findings_of(
-        alloc,
-        counted.lines_without_contact(),
-        answers.as_slice(),
-        git_answers.as_slice(),
-    )?;
     let verification = Verification::new(alloc, &mailmaps)?;
     let settings = &request.settings;
     let names = settings.mailmap_names(request.paths.as_slice());
@@ -164,29 +154,4 @@ fn print_suggestions<W: Write>(
         suggestions: suggestions.as_slice().iter(),
     };
     print_pieces(alloc, lines, output)
-}
-
-// The text of suggestions: for each how often each answer comes, as comments, and the lines of its entries. The first
-// comes after the line feed that the last mailmap lacks.
-#[derive(Drop)]
-struct SuggestionPieces<'s, 'a> {
-    start: &'static [u8],
-    suggestions: slice::Iter<'s, Suggestion<'a>>,
-}
-
-impl Pieces for SuggestionPieces<'_, '_> {
-    ghost left = { λ s. suggestion_pieces s.start.now (map suggestion_of (iter_rest s.suggestions)) };
-
-    fn next_piece(&mut self, alloc: Global) -> Result<Option<Piece>, AllocError> {
-        let Some(suggestion) = self.suggestions.next() else {
-            return Ok(None);
-        };
-        let mut text = Vec::from_slice(alloc, self.start)?;
-        push_suggestion(&mut text, suggestion)?;
-        self.start = b"";
-        Ok(Some(Piece {
-            text,
-            counts: false,
-        }))
-    }
 }

@@ -78,7 +78,8 @@ pub fn unneeded(mailmaps: &[Named<'_>], contacts: &[u8]) -> Vec<Position> {
 }
 
 /// The lines that some mailmaps lack for contacts, as `mailmap_verify --suggest` prints them. The text is a mailmap, to
-/// be appended to the last one. If that isn't empty and doesn't end with a line feed, the text begins with one.
+/// be appended to the last one: if that isn't empty and doesn't end with a line feed, the text, if there is any, begins
+/// with one.
 ///
 /// ```
 /// let said = gix_mailmap::suggest(&[], b"Jane Doe <jane@x>\nJane Doe <jane@x>\njane <jane@x>\n");

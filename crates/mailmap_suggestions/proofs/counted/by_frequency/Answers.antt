@@ -6,7 +6,7 @@ use Rattle.mailmap_contacts.specs.Counts.{SameTallies}
 use Rattle.mailmap_contacts.proofs.Entries.{entries_more}
 use Rattle.mailmap_contacts.proofs.Steps.{mapped_more, none_before}
 use Rattle.mailmap_suggestions.specs.Counted.{frequency_cmp}
-use Rattle.mailmap_suggestions.proofs.Forms.{frequency_total, sorted_tallies}
+use Rattle.mailmap_suggestions.proofs.Proper.{frequency_total, sorted_tallies}
 use Rattle.mailmap_suggestions.proofs.counted.by_frequency.Goals as goal
 
 pub loop-tally-preserved : goal.loop-tally-preserved

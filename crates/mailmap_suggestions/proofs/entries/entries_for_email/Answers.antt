@@ -7,13 +7,13 @@ use Rattle.mailmap_suggestions.proofs.entries.entries_for_email.Goals as goal
 
 pub plain_entry-plain-requires : goal.plain_entry-plain-requires
 plain_entry-plain-requires c =
-    (c.requires.0, (unowned_email c.args.answers.now c.requires.0 c.args.contacts.now c.deref.result.now (c.deref.ensures.value ∙ c.in_ok-unowned.ensures) c.requires.1).0)
+    (c.requires.0, (unowned_email c.args.shared.now c.args.answers.now c.requires.0 c.args.contacts.now c.deref.result.now (c.deref.ensures.value ∙ c.in_ok-plain_contacts.ensures) c.requires.1).0)
 
 pub loop-contact-init : goal.loop-contact-init
 loop-contact-init c =
     let to = (tally_of c.args.to.now).contact in
-    begun c.args.answers.now to c.requires.0 c.args.contacts.now c.deref.result.now c.plain_entry-plain.result c.in_ok-entries.entries.items c.as_slice.result.now c.new-changes.result
-    (c.deref.ensures.value ∙ c.in_ok-unowned.ensures) c.requires.1 c.plain_entry-plain.ensures c.in_ok-entries.ensures.items c.as_slice.ensures (c.new-changes.ensures to c.requires.0)
+    begun c.args.shared.now c.args.answers.now to c.requires.0 c.args.contacts.now c.deref.result.now c.plain_entry-plain.result c.in_ok-entries.entries.items c.as_slice.result.now c.new-changes.result
+    (c.deref.ensures.value ∙ c.in_ok-plain_contacts.ensures) c.requires.1 c.plain_entry-plain.ensures c.in_ok-entries.ensures.items c.as_slice.ensures (c.new-changes.ensures to c.requires.0)
 
 pub loop-contact-preserved-then-are_enough : goal.loop-contact-preserved-then-are_enough
 loop-contact-preserved-then-are_enough c =

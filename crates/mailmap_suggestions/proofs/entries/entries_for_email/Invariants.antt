@@ -9,5 +9,5 @@ use Rattle.mailmap_suggestions.proofs.entries.entries_for_email.Given as goal
 
 abbrev pub invariant-loop-contact : goal.invariant-loop-contact
 invariant-loop-contact l =
-    let to = (tally_of l.to).contact in ArePushed l.answers to (entries_for_email l.answers to (contacts_of l.contacts))
+    let to = (tally_of l.to).contact in ArePushed l.answers to (entries_for_email l.shared l.answers to (contacts_of l.contacts))
     (contacts_of (drop l.contact-index l.contacts)) (map mapping_of l.entries.items) l.changes

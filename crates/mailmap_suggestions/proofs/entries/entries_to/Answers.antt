@@ -15,9 +15,10 @@ entries_for_email-requires c =
 
 pub returns : goal.returns
 returns c =
+    let shared = c.args.shared.now in
     let h = c.args.answers.now in
     let to = (tally_of c.args.to.now).contact in
     let parts = c.deref-part-items.result.now in
     let entries = map mapping_of c.loop-part.entries.items in
-    sym (append-nil entries) ∙ ap (λ l. entries ++ l) (sym (at_drop_all (flat_map (part_entries h to)) parts c.loop-part.part-index c.loop-part-test.false)) ∙ c.loop-part.invariant
-    ∙ parts_whole h to (contacts_of c.args.group.now) parts (ap (map (λ p. contacts (tallies_in p))) c.deref-part-items.ensures.value ∙ c.in_ok-by_old_email.ensures.whole)
+    sym (append-nil entries) ∙ ap (λ l. entries ++ l) (sym (at_drop_all (flat_map (part_entries shared h to)) parts c.loop-part.part-index c.loop-part-test.false)) ∙ c.loop-part.invariant
+    ∙ parts_whole shared h to (contacts_of c.args.group.now) parts (ap (map (λ p. contacts (tallies_in p))) c.deref-part-items.ensures.value ∙ c.in_ok-by_old_email.ensures.whole)

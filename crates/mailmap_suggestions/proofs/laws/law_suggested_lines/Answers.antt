@@ -1,5 +1,5 @@
 use Rattle.std.proofs.Common.{refl}
-use Rattle.mailmap_suggestions.proofs.United.{entry_read}
+use Rattle.mailmap_suggestions.proofs.Texts.{entry_read}
 use Rattle.mailmap_suggestions.proofs.laws.law_suggested_lines.Goals as goal
 
 pub returns : goal.returns

@@ -1,7 +1,7 @@
 use Rattle.std.proofs.Common.{◌∙◌, [], ap, option_copied, sym, unwrap_or}
 use Rattle.mailmap_entries.specs.Semantics.{last}
 use Rattle.mailmap_suggestions.specs.SuggestedText.{feed_unless}
-use Rattle.mailmap_suggestions.proofs.Last.{last_buffer}
+use Rattle.mailmap_suggestions.proofs.Counting.{last_buffer}
 use Rattle.mailmap_suggestions.proofs.text.feed_after.Goals as goal
 
 pub returns-in-Some : goal.returns-in-Some

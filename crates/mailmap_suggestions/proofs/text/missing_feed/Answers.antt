@@ -1,6 +1,6 @@
 use Rattle.std.proofs.Common.{◌∙◌, ap, option_copied, sym}
 use Rattle.mailmap_suggestions.specs.SuggestedText.{feed_unless}
-use Rattle.mailmap_suggestions.proofs.Last.{last_is}
+use Rattle.mailmap_suggestions.proofs.Counting.{last_is}
 use Rattle.mailmap_suggestions.proofs.text.missing_feed.Goals as goal
 
 pub returns-in-Some : goal.returns-in-Some

@@ -1,18 +1,15 @@
 use Rattle.std.proofs.Common.{rules, ◌≡◌, ◌∙◌, List, ℕ, Bor, Vec, Global, ap, filter, map, not, subst, sym}
 use Rattle.std.specs.Slice.Iter.{iter_rest}
-use Rattle.mailmap_contacts.specs.Answers.{finding_view, tally_of}
-use Rattle.mailmap_contacts.specs.Contacts.{AreTallies, answers_to}
 use Rattle.mailmap_contacts.specs.Counts.{AreContactsOf}
 use Rattle.mailmap_findings.specs.Needs.{any_needs}
 use Rattle.mailmap_findings.specs.Positions.{whole_lines}
 use Rattle.mailmap_findings.specs.Remarks.{AreRemarks}
-use Rattle.mailmap_findings.proofs.Read.{mappings_of-located_lines}
 use Rattle.mailmap_findings.proofs.WholeLines.{lines-whole}
-use Rattle.mailmap_redundancy.specs.Redundancy.{entries}
-use Rattle.mailmap_suggestions.specs.Histories.{histories_of}
 use Rattle.mailmap_report.specs.Report.{pieces_beside}
 use Rattle.mailmap_report.specs.Settings.{choices_of, mailmap_names}
-use Rattle.verify_command.specs.Task.{AreFoundWith, Says}
+use Rattle.mailmap_suggestions.specs.ContactFindings.{AreContactFindings}
+use Rattle.mailmap_suggestions.specs.FindingViews.{finding_view}
+use Rattle.verify_command.specs.Task.{Says}
 use Rattle.verify_command.proofs.Leaving.{leaves_weaker}
 use Rattle.verify_command.proofs.contacts.print_report.Goals as goal
 
@@ -28,19 +25,11 @@ returns-clause-leaves g c = λ taken counted.
     (c.new-remarks.ensures c.in_ok-mailmaps.mailmaps taken (search rules) (record {
       kept = c.in_ok-needs.needs.kept;
       effective = begun.effective;
-      whole = c.as_slice-4.ensures.value ∙ c.in_ok-unneeded.ensures ∙ c.add_to_needs.ensures.left lines are ∙ ap (filter (λ p. not (any_needs c.in_ok-needs.needs.kept lines p))) begun.left;
+      whole = c.as_slice-2.ensures.value ∙ c.in_ok-unneeded.ensures ∙ c.add_to_needs.ensures.left lines are ∙ ap (filter (λ p. not (any_needs c.in_ok-needs.needs.kept lines p))) begun.left;
     })) in
-    let ours : entries c.add_to_needs.new.needs.history ≡ (histories_of mailmaps).ours = ap entries (c.add_to_needs.ensures.history ∙ begun.history)
-    ∙ mappings_of-located_lines 0 c.in_ok-mailmaps.mailmaps ∙ ap (λ ms. (histories_of ms).ours) c.in_ok-mailmaps.ensures in
-    let answers = map tally_of c.in_ok-answers.answers.items in
     let found = map finding_view (iter_rest c.iter-found.result) in
-    let shown : map finding_view c.in_ok-findings.findings.items ≡ found = sym (ap (map finding_view) (c.iter-found.ensures.rest ∙ c.as_slice-5.ensures.value)) in
-    let about : AreFoundWith (histories_of mailmaps) lines found = record {
-      answers = answers;
-      tallies = subst (λ k. AreTallies (answers_to k lines) answers) ours (c.in_ok-answers.ensures lines are);
-      whole = rw (shown, c.lines_without_contact.ensures ∙ are.lines_without_contact, c.as_slice.ensures.value, ap (map tally_of) c.as_slice-2.ensures.value ∙ c.in_ok-git_answers.ensures lines are) at c.in_ok-findings.ensures.whole;
-      in_order = rw shown at c.in_ok-findings.ensures.in_order;
-    } in
+    let shown : map finding_view c.in_ok-findings.findings.items ≡ found = sym (ap (map finding_view) (c.iter-found.ensures.rest ∙ c.as_slice-3.ensures.value)) in
+    let about : AreContactFindings mailmaps lines found = subst (AreContactFindings mailmaps lines) shown (c.in_ok-findings.ensures lines are) in
     let names : map items c.mailmap_names-names.result.now ≡ mailmap_names (choices_of c.args.request.now.settings) (map items c.args.request.now.paths.items) = search rules in
     let of = λ (ns : List (List ℕ)) (file : List ℕ). pieces_beside (choices_of c.args.request.now.settings) ns file c.new-remarks.result found in
     leaves_weaker (λ o t says. (

@@ -63,7 +63,7 @@ returns-in-Contacts-clause-leaves g c =
     in_mode g.W.Write.contents _ _ _ (g.F.FileSystem.at c.args.system.now) (g.R.Read.remaining c.args.input.now) _ (wanted_of c.args.request.now) c.in-Contacts.is
     (left_with (IsReportBeside w) (g.F.FileSystem.at c.args.system.now) (g.R.Read.remaining c.args.input.now) _ w
     (map now c.as_slice-buffers.result.now) (ap takes_contacts c.in-Contacts.is)
-    (λ no. ap (λ i. g.R.Read.remaining i) (c.read_mailmaps.ensures.unread no)) (search rules) c.report_contacts.ensures.leaves)
+    (λ no. ap (λ i. g.R.Read.remaining i) (c.read_mailmaps.ensures.unread no)) (rw (c.as_slice-buffers.ensures.value, c.in_ok-list-in_default.ensures, c.as_slice.ensures.value) c.in_ok-mailmaps-in_default.ensures.ok) c.report_contacts.ensures.leaves)
 
 pub returns-in-Suggest-clause-leaves : goal.returns-in-Suggest-clause-leaves
 returns-in-Suggest-clause-leaves g c =
@@ -106,7 +106,7 @@ pub returns-in-Contacts-clause-fails : goal.returns-in-Contacts-clause-fails
 returns-in-Contacts-clause-fails g c =
     let w = wanted_of c.args.request.now in
     let takes = ap takes_contacts c.in-Contacts.is in
-    IfErr-weaker c.report_contacts.result _ _ (λ e fails. contacts_failed (g.F.FileSystem.at c.args.system.now) (g.R.Read.remaining c.args.input.now) (g.R.Read.remaining c.read_mailmaps.new.input) w (map now c.as_slice-buffers.result.now) e takes (search rules)
+    IfErr-weaker c.report_contacts.result _ _ (λ e fails. contacts_failed (g.F.FileSystem.at c.args.system.now) (g.R.Read.remaining c.args.input.now) (g.R.Read.remaining c.read_mailmaps.new.input) w (map now c.as_slice-buffers.result.now) e takes (rw (c.as_slice-buffers.ensures.value, c.in_ok-list-in_default.ensures, c.as_slice.ensures.value) c.in_ok-mailmaps-in_default.ensures.ok)
     (λ dash. ap (λ i. g.R.Read.remaining i) (c.read_mailmaps.ensures.unread (no_mailmap w.mode w.contacts (has_none w.paths) takes dash))) fails) c.report_contacts.ensures.fails
 
 pub returns-in-Suggest-clause-refuses : goal.returns-in-Suggest-clause-refuses

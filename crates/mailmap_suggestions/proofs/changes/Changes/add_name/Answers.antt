@@ -1,7 +1,7 @@
 use Rattle.std.proofs.Common.{◌∙◌, ap, option_copied, refl}
 use Rattle.mailmap_contacts.specs.Answers.{tally_of}
 use Rattle.mailmap_contacts.specs.declared.folded.Folded.{Folded}
-use Rattle.mailmap_suggestions.proofs.Appended.{changes_named, spelled_or}
+use Rattle.mailmap_suggestions.proofs.Changed.{changes_named, spelled_or}
 use Rattle.mailmap_suggestions.proofs.changes.Changes.add_name.Goals as goal
 
 pub returns : goal.returns

@@ -1,6 +1,6 @@
 use Rattle.std.proofs.Common.{Some, ap}
 use Rattle.mailmap_entries.specs.Entries.{mapping_of}
-use Rattle.mailmap_suggestions.proofs.Appended.{changes_plain}
+use Rattle.mailmap_suggestions.proofs.Changed.{changes_plain}
 use Rattle.mailmap_suggestions.proofs.changes.Changes.new.Goals as goal
 
 pub returns : goal.returns

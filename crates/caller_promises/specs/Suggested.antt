@@ -1,0 +1,111 @@
+-- Mailmaps with suggested lines appended, and what is promised of their answers.
+use Rattle.std.specs.Prelude.{◌≡◌, ◌≢◌, Bool, List, [], ◌∷◌, ◌++◌, true}
+use Rattle.std.specs.List.{AllByRecursion, flat_map}
+use Rattle.bstr.specs.Text.{lines_of}
+use Rattle.gix_mailmap.specs.Entries.{Mapping}
+use Rattle.gix_mailmap.specs.Folding.{Text, folded}
+use Rattle.gix_mailmap.specs.GitAnswers.{git_mappings}
+use Rattle.gix_mailmap.specs.Lines.{mappings_of}
+use Rattle.mailmap_contacts.specs.Contacts.{Contact, Tally, answer_to, contacts_from, tallied}
+use Rattle.mailmap_snapshot.specs.declared.actor.Signature.{Signature}
+use Rattle.mailmap_suggestions.specs.Forms.{alike, git_answer_to, is_shared}
+use Rattle.mailmap_suggestions.specs.GroupEntries.{AllAgree, NoneCutIf, Unites, all_entries, contacts, email_class, only}
+use Rattle.mailmap_suggestions.specs.GroupEntries.{uncut, uncut_email_class, with_emails}
+use Rattle.mailmap_suggestions.specs.Histories.{histories_of}
+use Rattle.mailmap_suggestions.specs.Shared.{shared_emails}
+use Rattle.mailmap_suggestions.specs.SuggestedText.{feed_after}
+use Rattle.mailmap_suggestions.specs.Suggestions.{AreGroupClasses, GroupClasses, lines_in, new_entries}
+use Rattle.mailmap_suggestions.specs.Written.{ContactHoldsNoZero, selected_text}
+
+-- ---- mailmaps and contacts
+
+-- mailmaps, of which this is the last
+abbrev pub with_last : List Text → Text → List Text
+with_last others last = others ++ last ∷ []
+
+abbrev pub mappings_in : List Text → List Mapping
+mappings_in mailmaps = flat_map mappings_of mailmaps
+
+abbrev pub git_mappings_in : List Text → List Mapping
+git_mappings_in mailmaps = flat_map git_mappings mailmaps
+
+-- the contacts on the lines of a text, each once, in the order in which they first come
+abbrev pub contacts_in : Text → List Tally
+contacts_in text = tallied (contacts_from 1 (lines_of text))
+
+-- no name and no email of a contact on the lines holds a zero byte
+abbrev pub HoldNoZero : Text → Type 0
+HoldNoZero text = AllByRecursion (λ t. ContactHoldsNoZero t.contact) (contacts_from 1 (lines_of text))
+
+-- the name and the email of a signature
+abbrev pub contact_in : Signature → Contact
+contact_in s = record { name = s.name.items; email = s.email.items }
+
+-- ---- answers
+
+-- this library and git answer a contact as before
+abbrev pub AnswersStay : List Mapping → List Mapping → Contact → Type 0
+AnswersStay h g c = (answer_to g c ≡ answer_to h c) × (git_answer_to g c ≡ git_answer_to h c)
+
+-- The mappings g answer contacts as h does, but those whose answers have one email by the proper one of these answers,
+-- here and in git. So all of one email are one. But nobody changes whose answer has no email, or one that several people
+-- share, or one for which git would cut a line; and no two contacts get one answer unless their answers had one email.
+pub record AreUnited (h g : List Mapping) (ts : List Tally) : Type 0 where
+  pub emails : let shared = shared_emails (alike h) ts in Unites shared (uncut_email_class shared h ts) h ts g
+  pub others : AllByRecursion (λ c. uncut_email_class (shared_emails (alike h) ts) h ts (answer_to h c) ≡ []
+      → AnswersStay h g c) (contacts ts)
+  pub at_shared : AllByRecursion (λ c. is_shared (shared_emails (alike h) ts) (answer_to h c).email ≡ true
+      → AnswersStay h g c) (contacts ts)
+  pub joined : AllByRecursion (λ b. AllByRecursion (λ c. answer_to g b ≡ answer_to g c
+      → folded (answer_to h b).email ≡ folded (answer_to h c).email) (contacts ts)) (contacts ts)
+
+-- With a text appended to the last mailmap, git reads all mailmaps as this library does, and both answer the contacts so.
+abbrev pub UnitesAppended : List Text → Text → Text → Text → Type 0
+UnitesAppended others last text contacts =
+    let g = mappings_in (with_last others (last ++ text)) in
+    (git_mappings_in (with_last others (last ++ text)) ≡ g)
+    × AreUnited (mappings_in (with_last others last)) g (contacts_in contacts)
+
+-- ---- with the marks deleted of some groups by name
+
+-- what was suggested for contacts, without the marks before the lines of the groups by name whose classes pass a test
+pub record IsEdited (mailmaps : List Text) (contacts : Text) (c : GroupClasses) (passes : Text → Bool) (text : Text)
+    : Type 0 where
+  pub are_classes : let h = histories_of mailmaps in
+      AreGroupClasses (shared_emails h (contacts_in contacts)) h (contacts_in contacts) c
+  pub is : let h = histories_of mailmaps in
+      let ts = contacts_in contacts in
+      text ≡ feed_after mailmaps ++ selected_text (shared_emails h ts) c passes (lines_in mailmaps) h ts
+
+-- the mappings with the entries for emails
+abbrev pub after_emails : List Mapping → List Tally → List Mapping
+after_emails h ts = with_emails (shared_emails (alike h) ts) h ts
+
+-- the entries for the groups by name that pass
+abbrev pub selected_entries : List Mapping → List Tally → (Contact → Text) → (Text → Bool) → List Mapping
+selected_entries h ts class passes = let g = alike (after_emails h ts) in
+    all_entries (shared_emails (alike h) ts) (only passes class) g g ts
+
+-- The mappings g answer contacts as those with the entries for emails do, but those of a selected group by the proper
+-- answer of the group, here and in git. So all of one email are still one.
+pub record AreSelected (h g : List Mapping) (ts : List Tally) (class : Contact → Text) (passes : Text → Bool)
+    : Type 0 where
+  pub groups : let shared = shared_emails (alike h) ts in
+      let before = after_emails h ts in
+      Unites shared (uncut shared (only passes class) (alike before) (alike before) ts) before ts g
+  pub emails : AllAgree (uncut_email_class (shared_emails (alike h) ts) h ts) g (contacts ts)
+
+-- No line of the selected groups is remembered, and git would cut none for the email of an answer in such a group.
+pub record CanSelect (mailmaps : List Text) (ts : List Tally) (class : Contact → Text) (passes : Text → Bool)
+    : Type 0 where
+  pub all_new : let es = selected_entries (mappings_in mailmaps) ts class passes in new_entries (lines_in mailmaps) es ≡ es
+  pub none_cut : let h = mappings_in mailmaps in
+      let shared = shared_emails (alike h) ts in
+      NoneCutIf (λ c. only passes class (answer_to (after_emails h ts) c) ≢ []) shared (email_class shared) h ts
+
+-- with an edited text appended to the last mailmap, git reads all as this library does, and both answer the contacts so
+abbrev pub SelectsAppended : List Text → Text → Text → Text → GroupClasses → (Text → Bool) → Type 0
+SelectsAppended others last text contacts c passes =
+    let g = mappings_in (with_last others (last ++ text)) in
+    (git_mappings_in (with_last others (last ++ text)) ≡ g)
+    × AreSelected (mappings_in (with_last others last)) g (contacts_in contacts) c.by_name passes

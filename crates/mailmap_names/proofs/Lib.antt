@@ -1,0 +1,6 @@
+pub mod Emails
+pub mod Marks
+pub mod Orders
+pub mod Searches
+pub mod Spelling
+mod WordLemmas

@@ -1,0 +1,4 @@
+pub mod Keys
+pub mod Logins
+pub mod Private
+pub mod Words

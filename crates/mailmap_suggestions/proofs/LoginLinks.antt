@@ -1,0 +1,302 @@
+-- The keys of names and logins, with the answers that have them, and the links of answers by these.
+use Rattle.std.proofs.Common.{◌≡◌, ◌∙◌, ◌&&◌, ◌||◌, ◌++◌, ℕ, Bool, true, false, not, List, [], ◌∷◌, Option, None, Some, ap, arith, bytes_eq, filter, flat_map, if◌then◌else◌, map, refl, sym, subst}
+use Rattle.std.specs.List.{list_any}
+use Rattle.std.proofs.lemmas.Bool.{and_parts}
+use Rattle.std.proofs.lemmas.Cmp.{nat_list_eq_equiv}
+use Rattle.std.proofs.lemmas.List.{map-append}
+use Rattle.std.proofs.lemmas.List.Folds.{flat_map-map}
+use Rattle.std.proofs.lemmas.Map.Views.{any-filter_same}
+use Rattle.mailmap_contacts.specs.Answers.{tally_of}
+use Rattle.mailmap_contacts.specs.Contacts.{Contact, Tally, answered, has_text, same_contact, tallied}
+use Rattle.mailmap_contacts.proofs.Entries.{same_is}
+use Rattle.mailmap_contacts.proofs.Tallied.{itself}
+use Rattle.mailmap_entries.specs.Folding.{Text}
+use Rattle.mailmap_entries.proofs.Parts.{all_weaker, any_either, list_any-append, list_any-map}
+use Rattle.mailmap_names.specs.Keys.{first_words, is_among, keys}
+use Rattle.mailmap_suggestions.specs.Forms.{Histories}
+use Rattle.mailmap_suggestions.specs.Links.{all_name_keys, another_has, answered_by, answers, email_keys, emails_of, first_keys, is_first_name}
+use Rattle.mailmap_suggestions.specs.Links.{login_marks, mail_keys, name_keys, names_of, participants, takes_part}
+use Rattle.mailmap_suggestions.specs.LinkViews.{AreLinksOf, AreLoginKeys, AreMembers, HoldersOf, all_login_links_of, answer_in, contact_in}
+use Rattle.mailmap_suggestions.specs.LinkViews.{holder_of, is_another, is_login_in, is_name_in, is_several, links_to, login_links_of, pairs_by, with_answer}
+use Rattle.mailmap_suggestions.specs.declared.holders.Holder.{Holder}
+use Rattle.mailmap_suggestions.specs.declared.holders.Holders.{Holders}
+use Rattle.mailmap_suggestions.specs.declared.links.LoginKeys.{LoginKeys}
+use Rattle.mailmap_suggestions.specs.declared.members.Member.{Member}
+use Rattle.mailmap_suggestions.proofs.Distinct.{all_of, same_bytes}
+use Rattle.mailmap_suggestions.proofs.ListTests.{and_any, any_alike, any_and, any_filter, any_in, any_joined, any_of, any_pair}
+use Rattle.mailmap_suggestions.proofs.MemberMarks.{all_parts, are_links, is_same, links_by, parts_among, parts_of}
+
+-- ==== answers, each once
+
+turned : (a b : Contact) → same_contact a b ≡ same_contact b a
+turned a b = λ i. nat_list_eq_equiv.symm a.name b.name i && nat_list_eq_equiv.symm a.email b.email i
+
+any_tallied : (passes : Contact → Bool) (ts : List Tally) → list_any (λ t. passes t.contact) (tallied ts) ≡ list_any (λ t. passes t.contact) ts
+any_tallied passes [] = refl
+any_tallied passes (t ∷ ts) = by (passes t.contact) refl (any_tallied passes ts)
+  where
+    others : List Tally
+    others = filter (λ u. not (same_contact t.contact u.contact)) (tallied ts)
+
+    kept : passes t.contact ≡ false → (u : Tally) → (not (same_contact t.contact u.contact) && passes u.contact) ≡ passes u.contact
+    kept fails u = elim (same_contact t.contact u.contact) as (λ s. same_contact t.contact u.contact ≡ s → (not s && passes u.contact) ≡ passes u.contact) [
+      | true ↦ λ same. sym fails ∙ ap passes (same_is t.contact u.contact same)
+      | false ↦ λ _. refl
+    ] refl
+
+    by : (b : Bool) → passes t.contact ≡ b → list_any (λ t. passes t.contact) (tallied ts) ≡ list_any (λ t. passes t.contact) ts
+        → (b || list_any (λ t. passes t.contact) others) ≡ (b || list_any (λ t. passes t.contact) ts)
+    by true is rest = refl
+    by false is rest =
+        any_filter (λ t. passes t.contact) (λ u. not (same_contact t.contact u.contact)) (tallied ts)
+        ∙ any_alike (λ u. not (same_contact t.contact u.contact) && passes u.contact) (λ u. passes u.contact) (tallied ts)
+        (all_of (λ u. (not (same_contact t.contact u.contact) && passes u.contact) ≡ passes u.contact) (kept is) (tallied ts))
+        ∙ rest
+
+-- ==== keys with the answers that have them
+
+-- whether a key is that of an answer, and of another one
+several_is : (has : Contact → Bool) (xs : List Contact) (o : Option Holder) → ((a : Contact) → is_another o a ≡ list_any (λ b. not (same_contact b a) && has b) xs)
+    → is_several o ≡ list_any (λ a. has a && list_any (λ b. not (same_contact b a) && has b) xs) xs
+several_is has xs None is =
+    sym (any_alike (λ a. has a && list_any (λ b. not (same_contact b a) && has b) xs) (λ a. has a && false) xs
+    (all_of (λ a. (has a && list_any (λ b. not (same_contact b a) && has b) xs) ≡ (has a && false)) (λ a. ap (λ t. has a && t) (sym (is a))) xs)
+    ∙ and_any has false xs ∙ none (list_any has xs))
+  where
+    none : (b : Bool) → (b && false) ≡ false
+    none true = refl
+    none false = refl
+several_is has xs (Some holder) is =
+    by holder.is_one is
+    ∙ sym (any_alike (λ a. has a && list_any (λ b. not (same_contact b a) && has b) xs) (λ a. has a && (not holder.is_one || not (same_contact first a))) xs
+    (all_of (λ a. (has a && list_any (λ b. not (same_contact b a) && has b) xs) ≡ (has a && (not holder.is_one || not (same_contact first a)))) (λ a. ap (λ t. has a && t) (sym (is a))) xs))
+  where
+    first : Contact
+    first = (tally_of holder.first).contact
+
+    swapped : (s t : Bool) → (s && t) ≡ (t && s)
+    swapped s t = grind arith
+
+    by : (one : Bool) → ((a : Contact) → (not one || not (same_contact first a)) ≡ list_any (λ b. not (same_contact b a) && has b) xs)
+        → not one ≡ list_any (λ a. has a && (not one || not (same_contact first a))) xs
+    by true is =
+        ap not (sym (itself first)) ∙ is first
+        ∙ any_alike (λ b. not (same_contact b first) && has b) (λ a. has a && not (same_contact first a)) xs
+        (all_of (λ b. (not (same_contact b first) && has b) ≡ (has b && not (same_contact first b)))
+        (λ b. swapped (not (same_contact b first)) (has b) ∙ ap (λ t. has b && not t) (turned b first)) xs)
+    by false is =
+        let found = any_of (λ b. not (same_contact b first) && has b) xs (sym (is first)) in
+        sym (any_in (λ a. has a && true) xs found.0 found.1 (swapped (has found.0) true ∙ (and_parts (not (same_contact found.0 first)) (has found.0) found.2).1))
+
+module _ (h : Histories) (ts : List Tally) (ms : List Member) (are : AreMembers h ts ms) where
+  any_answer : (passes : Contact → Bool) → list_any passes (answers h ts) ≡ list_any (λ m. passes (answer_in m)) ms
+  any_answer passes =
+      list_any-map passes (λ (t : Tally). t.contact) (tallied (map (answered h.ours) ts))
+      ∙ any_tallied passes (map (answered h.ours) ts)
+      ∙ ap (list_any (λ (t : Tally). passes t.contact)) (sym are.answers)
+      ∙ list_any-map (λ (t : Tally). passes t.contact) (λ (m : Member). tally_of m.answer) ms
+
+  module _ (keys_of : Contact → List Text) where
+    abbrev part : Contact → Contact → List Text
+    part a c = keys_of c
+
+    any_pair_by : (m : Member) (key : Text) (a : Contact) → list_any (λ p. bytes_eq p.0 key && not (same_contact p.1 a)) (pairs_by keys_of m)
+        ≡ (is_among (parts_of h ts ms are part m) key && not (same_contact (answer_in m) a))
+    any_pair_by m key a =
+        ap (list_any (λ (p : Text × Contact). bytes_eq p.0 key && not (same_contact p.1 a))) (by m.is_first)
+        ∙ list_any-map (λ (p : Text × Contact). bytes_eq p.0 key && not (same_contact p.1 a)) (λ text. (text, answer_in m)) (parts_of h ts ms are part m)
+        ∙ and_any (λ t. bytes_eq t key) (not (same_contact (answer_in m) a)) (parts_of h ts ms are part m)
+      where
+        by : (f : Bool) → ((if f then with_answer (answer_in m) (keys_of (answer_in m)) else []) ++ with_answer (answer_in m) (keys_of (contact_in m).contact))
+            ≡ with_answer (answer_in m) ((if f then keys_of (answer_in m) else []) ++ keys_of (contact_in m).contact)
+        by true = sym (map-append (λ text. (text, answer_in m)) (keys_of (answer_in m)) (keys_of (contact_in m).contact))
+        by false = refl
+
+    module _ (takes : Contact → Bool) (key : Text) (a : Contact) where
+      abbrev has : Member → Bool
+      has b = takes (answer_in b) && (is_among (parts_of h ts ms are part b) key && not (same_contact (answer_in b) a))
+
+      one_answer : (m : Member)
+          → (takes (answer_in m) && (not (same_contact (answer_in m) a) && list_any (λ b. is_same b m && is_among (parts_of h ts ms are part b) key) ms))
+          ≡ list_any (λ b. is_same b m && has b) ms
+      one_answer m =
+          let is_other : Bool = not (same_contact (answer_in m) a) in
+          let of_same : Member → Bool = λ b. is_same b m && is_among (parts_of h ts ms are part b) key in
+          ap (λ t. takes (answer_in m) && t) (sym (any_and is_other of_same ms))
+          ∙ sym (any_and (takes (answer_in m)) (λ b. is_other && of_same b) ms)
+          ∙ any_alike (λ b. takes (answer_in m) && (is_other && of_same b)) (λ b. is_same b m && has b) ms
+          (all_of (λ b. (takes (answer_in m) && (is_other && of_same b)) ≡ (is_same b m && has b)) (λ b. one b (is_same b m) refl) ms)
+        where
+          moved : (t o s : Bool) → (t && (o && (true && s))) ≡ (t && (s && o))
+          moved t o s = grind arith
+
+          none : (t o : Bool) → (t && (o && false)) ≡ false
+          none t o = grind arith
+
+          one : (b : Member) (same : Bool) → is_same b m ≡ same
+              → (takes (answer_in m) && (not (same_contact (answer_in m) a) && (same && is_among (parts_of h ts ms are part b) key))) ≡ (same && has b)
+          one b true is =
+              ap (λ x. takes x && (not (same_contact x a) && (true && is_among (parts_of h ts ms are part b) key))) (sym (same_is (answer_in b) (answer_in m) is))
+              ∙ moved (takes (answer_in b)) (not (same_contact (answer_in b) a)) (is_among (parts_of h ts ms are part b) key)
+          one b false is = none (takes (answer_in m)) (not (same_contact (answer_in m) a))
+
+      another_is : another_has (all_parts h ts ms are part) (filter takes (answers h ts)) a key ≡ list_any has ms
+      another_is =
+          let every : Contact → Bool = λ b. not (same_contact b a) && is_among (all_parts h ts ms are part b) key in
+          any_filter every takes (answers h ts)
+          ∙ any_answer (λ b. takes b && every b)
+          ∙ any_alike (λ m. takes (answer_in m) && every (answer_in m)) (λ m. list_any (λ b. is_same b m && has b) ms) ms
+          (all_weaker ms (λ m is. ap (λ t. takes (answer_in m) && (not (same_contact (answer_in m) a) && t)) is ∙ one_answer m) (parts_among h ts ms are part key))
+          ∙ any_pair is_same has (λ m. itself (answer_in m)) ms
+
+      holders_are : (found : Holders) → HoldersOf (flat_map (pairs_by keys_of) (filter (λ m. takes (answer_in m)) ms)) found
+          → is_another (holder_of found key) a ≡ another_has (all_parts h ts ms are part) (filter takes (answers h ts)) a key
+      holders_are found all =
+          let test : Text × Contact → Bool = λ p. bytes_eq p.0 key && not (same_contact p.1 a) in
+          all key a
+          ∙ any_joined test (pairs_by keys_of) (filter (λ m. takes (answer_in m)) ms)
+          ∙ any_filter (λ m. list_any test (pairs_by keys_of m)) (λ m. takes (answer_in m)) ms
+          ∙ any_alike (λ m. takes (answer_in m) && list_any test (pairs_by keys_of m)) has ms
+          (all_of (λ m. (takes (answer_in m) && list_any test (pairs_by keys_of m)) ≡ has m) (λ m. ap (λ t. takes (answer_in m) && t) (any_pair_by m key a)) ms)
+          ∙ sym another_is
+
+  -- of the names of an answer, or of its emails
+  of_names : (keys_of : Text → List Text) (a : Contact) → all_parts h ts ms are (λ a c. keys_of c.name) a ≡ flat_map keys_of (names_of h ts a)
+  of_names keys_of a = ap (λ l. keys_of a.name ++ l) (sym (flat_map-map keys_of (λ (c : Contact). c.name) (answered_by h ts a)))
+
+  of_emails : (keys_of : Text → List Text) (a : Contact) → all_parts h ts ms are (λ a c. keys_of c.email) a ≡ flat_map keys_of (emails_of h ts a)
+  of_emails keys_of a = ap (λ l. keys_of a.email ++ l) (sym (flat_map-map keys_of (λ (c : Contact). c.email) (answered_by h ts a)))
+
+  module _ (shared : List Text) (ps : List Member) (taken : ps ≡ filter (λ m. takes_part shared h ts (answer_in m)) ms) where
+    abbrev mailed : Contact → Bool
+    mailed a = has_text a.email
+
+    names_are : (found : Holders) → HoldersOf (flat_map (pairs_by (λ c. keys c.name)) ps) found → (key : Text) (a : Contact)
+        → is_another (holder_of found key) a ≡ another_has (all_name_keys h ts) (participants shared h ts) a key
+    names_are found all key a =
+        holders_are (λ c. keys c.name) (takes_part shared h ts) key a found (subst (λ l. HoldersOf (flat_map (pairs_by (λ c. keys c.name)) l) found) taken all)
+        ∙ (λ i. another_has (λ b. of_names keys b i) (participants shared h ts) a key)
+
+    logins_are : (found : Holders) → HoldersOf (flat_map (pairs_by (λ c. email_keys shared c.email)) ps) found → (key : Text) (a : Contact)
+        → is_another (holder_of found key) a ≡ another_has (mail_keys shared h ts) (participants shared h ts) a key
+    logins_are found all key a =
+        holders_are (λ c. email_keys shared c.email) (takes_part shared h ts) key a found (subst (λ l. HoldersOf (flat_map (pairs_by (λ c. email_keys shared c.email)) l) found) taken all)
+        ∙ (λ i. another_has (λ b. of_emails (email_keys shared) b i) (participants shared h ts) a key)
+
+    first_names_are : (found : Holders) → HoldersOf (flat_map (pairs_by (λ c. first_words c.name)) (filter (λ m. mailed (answer_in m)) ms)) found
+        → (key : Text) → is_several (holder_of found key) ≡ is_first_name h ts key
+    first_names_are found all key =
+        several_is (λ a. is_among (first_keys h ts a) key) (filter mailed (answers h ts)) (holder_of found key) (λ a.
+        holders_are (λ c. first_words c.name) mailed key a found all
+        ∙ (λ i. another_has (λ b. of_names first_words b i) (filter mailed (answers h ts)) a key))
+
+    pub keys_are : (found : LoginKeys) → HoldersOf (flat_map (pairs_by (λ c. keys c.name)) ps) found.names
+        → HoldersOf (flat_map (pairs_by (λ c. email_keys shared c.email)) ps) found.logins
+        → HoldersOf (flat_map (pairs_by (λ c. first_words c.name)) (filter (λ m. mailed (answer_in m)) ms)) found.first_names
+        → AreLoginKeys shared h ts found
+    keys_are found names logins first_names = record {
+      names = names_are found.names names;
+      logins = logins_are found.logins logins;
+      first_names = first_names_are found.first_names first_names;
+    }
+
+    -- ==== links
+
+    module _ (found : LoginKeys) (are_keys : AreLoginKeys shared h ts found) where
+      abbrev others : List Contact
+      others = participants shared h ts
+
+      abbrev login_part : Contact → Contact → List Text
+      login_part a c = filter (is_login_in found a) (keys c.name) ++ filter (is_name_in found a) (email_keys shared c.email)
+
+      among_filter : (passes : Text → Bool) (mark : Text) (xs : List Text) → is_among (filter passes xs) mark ≡ (passes mark && is_among xs mark)
+      among_filter passes mark xs = any-filter_same (λ t. bytes_eq t mark) passes (passes mark) (λ t is. ap passes (same_bytes t mark is)) xs
+
+      -- the keys of names that aren't first names
+      among_names : (a : Contact) (mark : Text) → is_among (name_keys h ts a) mark ≡ (not (is_first_name h ts mark) && is_among (all_name_keys h ts a) mark)
+      among_names a mark = among_filter (λ key. not (is_first_name h ts key)) mark (all_name_keys h ts a)
+
+      another_name : (a : Contact) (mark : Text)
+          → another_has (name_keys h ts) others a mark ≡ (not (is_first_name h ts mark) && another_has (all_name_keys h ts) others a mark)
+      another_name a mark =
+          let is_last : Bool = not (is_first_name h ts mark) in
+          any_alike (λ b. not (same_contact b a) && is_among (name_keys h ts b) mark) (λ b. is_last && (not (same_contact b a) && is_among (all_name_keys h ts b) mark)) others
+          (all_of (λ b. (not (same_contact b a) && is_among (name_keys h ts b) mark) ≡ (is_last && (not (same_contact b a) && is_among (all_name_keys h ts b) mark)))
+          (λ b. ap (λ t. not (same_contact b a) && t) (among_names b mark) ∙ moved (not (same_contact b a)) is_last (is_among (all_name_keys h ts b) mark)) others)
+          ∙ any_and is_last (λ b. not (same_contact b a) && is_among (all_name_keys h ts b) mark) others
+        where
+          moved : (s t u : Bool) → (s && (t && u)) ≡ (t && (s && u))
+          moved s t u = grind arith
+
+      login_is : (a : Contact) (mark : Text) → is_login_in found a mark ≡ (not (is_first_name h ts mark) && another_has (mail_keys shared h ts) others a mark)
+      login_is a mark = λ i. not (are_keys.first_names mark i) && are_keys.logins mark a i
+
+      name_is : (a : Contact) (mark : Text) → is_name_in found a mark ≡ another_has (name_keys h ts) others a mark
+      name_is a mark = (λ i. not (are_keys.first_names mark i) && are_keys.names mark a i) ∙ sym (another_name a mark)
+
+      part_is : (a : Contact) (mark : Text) (c : Contact) → is_among (login_part a c) mark
+          ≡ ((is_login_in found a mark && is_among (keys c.name) mark) || (is_name_in found a mark && is_among (email_keys shared c.email) mark))
+      part_is a mark c =
+          list_any-append (λ t. bytes_eq t mark) (filter (is_login_in found a) (keys c.name)) (filter (is_name_in found a) (email_keys shared c.email))
+          ∙ (λ i. among_filter (is_login_in found a) mark (keys c.name) i || among_filter (is_name_in found a) mark (email_keys shared c.email) i)
+
+      -- what some contacts have
+      any_key : (passes : Bool) (keys_of : Contact → List Text) (mark : Text) (a : Contact)
+          → list_any (λ c. passes && is_among (keys_of c) mark) (a ∷ answered_by h ts a) ≡ (passes && is_among (all_parts h ts ms are (λ a c. keys_of c) a) mark)
+      any_key passes keys_of mark a =
+          any_and passes (λ c. is_among (keys_of c) mark) (a ∷ answered_by h ts a)
+          ∙ ap (λ t. passes && t) (sym (any_joined (λ t. bytes_eq t mark) keys_of (a ∷ answered_by h ts a)))
+
+      parts_are : (a : Contact) (mark : Text) → is_among (all_parts h ts ms are login_part a) mark
+          ≡ ((is_login_in found a mark && is_among (all_name_keys h ts a) mark) || (is_name_in found a mark && is_among (mail_keys shared h ts a) mark))
+      parts_are a mark =
+          let cs : List Contact = a ∷ answered_by h ts a in
+          let by_name : Contact → Bool = λ c. is_login_in found a mark && is_among (keys c.name) mark in
+          let by_email : Contact → Bool = λ c. is_name_in found a mark && is_among (email_keys shared c.email) mark in
+          any_joined (λ t. bytes_eq t mark) (login_part a) cs
+          ∙ any_alike (λ c. is_among (login_part a c) mark) (λ c. by_name c || by_email c) cs
+          (all_of (λ c. is_among (login_part a c) mark ≡ (by_name c || by_email c)) (part_is a mark) cs)
+          ∙ sym (any_either by_name by_email cs)
+          ∙ (λ i. any_key (is_login_in found a mark) (λ c. keys c.name) mark a i || any_key (is_name_in found a mark) (λ c. email_keys shared c.email) mark a i)
+          ∙ (λ i. (is_login_in found a mark && is_among (of_names keys a i) mark) || (is_name_in found a mark && is_among (of_emails (email_keys shared) a i) mark))
+
+      marks_are : (a : Contact) (mark : Text)
+          → is_among (filter (another_has (mail_keys shared h ts) others a) (name_keys h ts a) ++ filter (another_has (name_keys h ts) others a) (mail_keys shared h ts a)) mark
+          ≡ is_among (all_parts h ts ms are login_part a) mark
+      marks_are a mark =
+          let has_login : Bool = another_has (mail_keys shared h ts) others a mark in
+          list_any-append (λ t. bytes_eq t mark) (filter (another_has (mail_keys shared h ts) others a) (name_keys h ts a)) (filter (another_has (name_keys h ts) others a) (mail_keys shared h ts a))
+          ∙ (λ i. among_filter (another_has (mail_keys shared h ts) others a) mark (name_keys h ts a) i || among_filter (another_has (name_keys h ts) others a) mark (mail_keys shared h ts a) i)
+          ∙ (λ i. (has_login && among_names a mark i) || (sym (name_is a mark) i && is_among (mail_keys shared h ts a) mark))
+          ∙ ap (λ t. t || (is_name_in found a mark && is_among (mail_keys shared h ts a) mark))
+          (moved has_login (not (is_first_name h ts mark)) (is_among (all_name_keys h ts a) mark) ∙ ap (λ t. t && is_among (all_name_keys h ts a) mark) (sym (login_is a mark)))
+          ∙ sym (parts_are a mark)
+        where
+          moved : (s t u : Bool) → (s && (t && u)) ≡ ((t && s) && u)
+          moved s t u = grind arith
+
+      have_login : (a : Contact) (mark : Text) → is_among (login_marks shared h ts a) mark ≡ (takes_part shared h ts a && is_among (all_parts h ts ms are login_part a) mark)
+      have_login a mark = by (takes_part shared h ts a)
+        where
+          by : (t : Bool) → is_among (if t then filter (another_has (mail_keys shared h ts) others a) (name_keys h ts a) ++ filter (another_has (name_keys h ts) others a) (mail_keys shared h ts a) else []) mark
+              ≡ (t && is_among (all_parts h ts ms are login_part a) mark)
+          by true = marks_are a mark
+          by false = refl
+
+      one_contact : (m : Member) (c : Contact) → login_links_of shared found m c ≡ links_to m.first (login_part (answer_in m) c)
+      one_contact m c = sym (map-append (λ mark. (mark, m.first)) (filter (is_login_in found (answer_in m)) (keys c.name)) (filter (is_name_in found (answer_in m)) (email_keys shared c.email)))
+
+      links_is : (m : Member) → all_login_links_of shared found m ≡ links_by h ts ms are login_part m
+      links_is m = (λ i. (if m.is_first then one_contact m (answer_in m) i else []) ++ one_contact m (contact_in m).contact i) ∙ by m.is_first
+        where
+          by : (f : Bool) → ((if f then links_to m.first (login_part (answer_in m) (answer_in m)) else []) ++ links_to m.first (login_part (answer_in m) (contact_in m).contact))
+              ≡ links_to m.first ((if f then login_part (answer_in m) (answer_in m) else []) ++ login_part (answer_in m) (contact_in m).contact)
+          by true = sym (map-append (λ mark. (mark, m.first)) (login_part (answer_in m) (answer_in m)) (login_part (answer_in m) (contact_in m).contact))
+          by false = refl
+
+      -- the links of all contacts that take part
+      pub login_links_are_links : (links : List (Text × ℕ)) → links ≡ flat_map (all_login_links_of shared found) ps → AreLinksOf (login_marks shared h ts) ms links
+      login_links_are_links links is =
+          are_links h ts ms are login_part (takes_part shared h ts) (login_marks shared h ts) have_login links
+          (is ∙ ap (flat_map (all_login_links_of shared found)) taken
+          ∙ (λ i. flat_map (λ m. links_is m i) (filter (λ m. takes_part shared h ts (answer_in m)) ms)))

@@ -1,0 +1,453 @@
+//! Links answers with alike names, and answers by logins.
+ghost use Rattle.std.specs.Prelude.{◌≡◌, ◌==◌, ◌<◌, ◌++◌, ℕ, All, IfOk, List, OnOk, Some, filter, if◌then◌else◌};
+ghost use Rattle.std.specs.Prelude.{[], decimal, fold, length, map, option_to_list, slice_get};
+ghost use Rattle.std.specs.List.{flat_map, list_any};
+ghost use Rattle.std.specs.Option.{option_copied};
+ghost use Rattle.mailmap_contacts.specs.Answers.{tally_of};
+ghost use Rattle.mailmap_contacts.specs.Contacts.{Contact, Tally as ATally, has_text as spec_has_text};
+ghost use Rattle.mailmap_entries.specs.Folding.{Text, folded};
+ghost use Rattle.mailmap_names.specs.Keys.{first_words as spec_first_words, keys, marks, texts};
+ghost use Rattle.mailmap_suggestions.specs.FirstLogins.{is_missing as spec_is_missing, login_in};
+ghost use Rattle.mailmap_suggestions.specs.FirstLogins.{own_login, with_login};
+ghost use Rattle.mailmap_suggestions.specs.Forests.{links_of};
+ghost use Rattle.mailmap_suggestions.specs.Forms.{Histories};
+ghost use Rattle.mailmap_suggestions.specs.LinkViews.{AreLinksOf, AreLoginKeys, AreMembers, AreWhole, HoldersOf};
+ghost use Rattle.mailmap_suggestions.specs.LinkViews.{answer_in, is_login_in, is_name_in, links_to, login_links_of};
+ghost use Rattle.mailmap_suggestions.specs.LinkViews.{name_links_of, pairs_by};
+ghost use Rattle.mailmap_suggestions.specs.Links.{AreClassesBy, another_has, answers as spec_answers};
+ghost use Rattle.mailmap_suggestions.specs.Links.{email_keys as spec_email_keys};
+ghost use Rattle.mailmap_suggestions.specs.Links.{linking_logins, login_marks, takes_part};
+ghost use Rattle.mailmap_suggestions.specs.Suggestions.{first_or_empty};
+ghost use Rattle.mailmap_suggestions.specs.declared.members.Member.{Member as AMember};
+
+use crate::classes::{Link, classes_of};
+use crate::holders::Holders;
+use crate::members::Member;
+use crate::shared::SharedEmails;
+use itoa::Buffer;
+use mailmap_contacts::answers::Tally;
+use mailmap_contacts::proper::has_text;
+use mailmap_names::logins::login;
+use mailmap_names::names::{Name, login_keys};
+use std::alloc::{AllocError, Global};
+
+/// The links of answers by the marks of their names and of those of their contacts.
+pub(crate) fn name_links(
+    alloc: Global,
+    participants: &[Member<'_, '_>],
+) -> Result<Vec<Link>, AllocError>
+    ensures { IfOk result (λ links. links_of links.items ≡ flat_map name_links_of participants.now) }
+{
+    let mut links = Vec::new(alloc);
+    for member in participants {
+        if member.is_first {
+            push_marks(&mut links, member.answer.name, member.first)?;
+        }
+        push_marks(&mut links, member.contact.name, member.first)?;
+    }
+    Ok(links)
+}
+
+fn push_marks(links: &mut Vec<Link>, name: &[u8], item: usize) -> Result<(), AllocError>
+    ensures { OnOk result (links_of links.new.items ≡ links_of links.old.items ++ links_to item (marks name.now)) }
+{
+    let alloc = *links.allocator();
+    for mark in Name::read(alloc, name)?.marks(alloc)? {
+        links.push(Link { mark, item })?;
+    }
+    Ok(())
+}
+
+/// The keys of names and logins, with the answers that have them.
+#[derive(Drop)]
+pub(crate) struct LoginKeys<'a> {
+    names: Holders<'a>,
+    logins: Holders<'a>,
+    first_names: Holders<'a>,
+}
+
+impl<'a> LoginKeys<'a> {
+    /// Those of all answers with an email, as far as first names go, and those of the answers that take part.
+    pub(crate) fn read(
+        alloc: Global,
+        shared: &SharedEmails<'a>,
+        members: &[Member<'_, 'a>],
+        participants: &[Member<'_, 'a>],
+    ) -> Result<LoginKeys<'a>, AllocError>
+        ensures { (h : Histories) (ts : List ATally) → AreMembers h ts members.now
+            → participants.now ≡ filter (λ m. takes_part shared.now h ts (answer_in m)) members.now
+            → IfOk result (AreLoginKeys shared.now h ts) }
+    {
+        let names = names_of(alloc, participants)?;
+        let logins = logins_of(alloc, shared, participants)?;
+        let first_names = first_names_of(alloc, members)?;
+        Ok(LoginKeys {
+            names,
+            logins,
+            first_names,
+        })
+    }
+
+    /// The links of answers by a key that a name of one and a login of another have.
+    pub(crate) fn links(
+        &self,
+        alloc: Global,
+        shared: &SharedEmails<'a>,
+        participants: &[Member<'_, 'a>],
+    ) -> Result<Vec<Link>, AllocError>
+        ensures { (h : Histories) (ts : List ATally) (ms : List AMember) → AreMembers h ts ms
+            → AreLoginKeys shared.now h ts self.now
+            → participants.now ≡ filter (λ m. takes_part shared.now h ts (answer_in m)) ms
+            → IfOk result (λ links. AreLinksOf (login_marks shared.now h ts) ms (links_of links.items)) }
+    {
+        let mut links = Vec::new(alloc);
+        for member in participants {
+            if member.is_first {
+                self.push_links(&mut links, shared, member, &member.answer)?;
+            }
+            self.push_links(&mut links, shared, member, member.contact)?;
+        }
+        Ok(links)
+    }
+
+    // Those by the name and the email of an answer, or of one of its contacts.
+    fn push_links(
+        &self,
+        links: &mut Vec<Link>,
+        shared: &SharedEmails<'a>,
+        member: &Member<'_, 'a>,
+        contact: &Tally<'a>,
+    ) -> Result<(), AllocError>
+        ensures { OnOk result (links_of links.new.items ≡ links_of links.old.items
+            ++ login_links_of shared.now self.now member.now (tally_of contact.now).contact) }
+    {
+        self.push_name_links(links, member, contact.name)?;
+        self.push_email_links(links, shared, member, contact.email)
+    }
+
+    fn push_name_links(
+        &self,
+        links: &mut Vec<Link>,
+        member: &Member<'_, 'a>,
+        name: &[u8],
+    ) -> Result<(), AllocError>
+        ensures { OnOk result (links_of links.new.items ≡ links_of links.old.items
+            ++ links_to member.now.first (filter (is_login_in self.now (answer_in member.now)) (keys name.now))) }
+    {
+        let alloc = *links.allocator();
+        let item = member.first;
+        for mark in name_keys(alloc, name)? {
+            if self.is_login_of_another(&mark, &member.answer) {
+                links.push(Link { mark, item })?;
+            }
+        }
+        Ok(())
+    }
+
+    fn push_email_links(
+        &self,
+        links: &mut Vec<Link>,
+        shared: &SharedEmails<'a>,
+        member: &Member<'_, 'a>,
+        email: &'a [u8],
+    ) -> Result<(), AllocError>
+        ensures { OnOk result (links_of links.new.items ≡ links_of links.old.items ++ links_to member.now.first
+            (filter (is_name_in self.now (answer_in member.now)) (spec_email_keys shared.now email.now))) }
+    {
+        let alloc = *links.allocator();
+        let item = member.first;
+        for mark in email_keys(alloc, shared, email)? {
+            if self.is_name_of_another(&mark, &member.answer) {
+                links.push(Link { mark, item })?;
+            }
+        }
+        Ok(())
+    }
+
+    fn is_login_of_another(&self, key: &Vec<u8>, answer: &Tally<'a>) -> bool
+        ensures { result ≡ is_login_in self.now (tally_of answer.now).contact key.now.items }
+    {
+        !self.first_names.are_several(key) && self.logins.has_another(key, answer)
+    }
+
+    fn is_name_of_another(&self, key: &Vec<u8>, answer: &Tally<'a>) -> bool
+        ensures { result ≡ is_name_in self.now (tally_of answer.now).contact key.now.items }
+    {
+        !self.first_names.are_several(key) && self.names.has_another(key, answer)
+    }
+
+    /// The first login that links answers of a group: as the answers first come, an answer's own email before those of
+    /// its contacts.
+    pub(crate) fn first_login(
+        &self,
+        alloc: Global,
+        shared: &SharedEmails<'a>,
+        group: &[Member<'_, 'a>],
+    ) -> Result<&'a [u8], AllocError>
+        ensures { (h : Histories) (ts us : List ATally) → AreLoginKeys shared.now h ts self.now
+            → AreMembers h us group.now → AreWhole h ts us → IfOk result (λ found. found.now
+            ≡ first_or_empty (flat_map (linking_logins shared.now h ts) (spec_answers h us))) }
+    {
+        let own = self.own_logins(alloc, shared, group)?;
+        let found = self.with_contact_logins(alloc, shared, group, own)?;
+        Ok(first_found(&found))
+    }
+
+    // Those by the answers' own emails, each at the first contact with the answer.
+    fn own_logins(
+        &self,
+        alloc: Global,
+        shared: &SharedEmails<'a>,
+        group: &[Member<'_, 'a>],
+    ) -> Result<Vec<Option<&'a [u8]>>, AllocError>
+        ensures { (h : Histories) (ts : List ATally) → AreLoginKeys shared.now h ts self.now
+            → IfOk result (λ found. map option_copied found.items ≡ map (own_login shared.now h ts) group.now) }
+    {
+        let mut found = Vec::with_capacity(alloc, group.len())?;
+        for member in group {
+            found.push(self.own_login(alloc, shared, member)?)?;
+        }
+        Ok(found)
+    }
+
+    fn own_login(
+        &self,
+        alloc: Global,
+        shared: &SharedEmails<'a>,
+        member: &Member<'_, 'a>,
+    ) -> Result<Option<&'a [u8]>, AllocError>
+        ensures { (h : Histories) (ts : List ATally) → AreLoginKeys shared.now h ts self.now
+            → IfOk result (λ found. option_copied found ≡ own_login shared.now h ts member.now) }
+    {
+        if !member.is_first {
+            return Ok(None);
+        }
+        self.linking_login(alloc, shared, &member.answer, member.answer.email)
+    }
+
+    // For answers without one, those by the emails of contacts.
+    fn with_contact_logins(
+        &self,
+        alloc: Global,
+        shared: &SharedEmails<'a>,
+        group: &[Member<'_, 'a>],
+        own: Vec<Option<&'a [u8]>>,
+    ) -> Result<Vec<Option<&'a [u8]>>, AllocError>
+        ensures { (h : Histories) (ts : List ATally) → AreLoginKeys shared.now h ts self.now
+            → IfOk result (λ found. map option_copied found.items
+            ≡ fold (with_login shared.now h ts) (map option_copied own.entry.items) group.now) }
+    {
+        let mut found = own;
+        for member in group {
+            if is_missing(&found, member.first) {
+                let email = member.contact.email;
+                let login = self.linking_login(alloc, shared, &member.answer, email)?;
+                found[member.first] = login;
+            }
+        }
+        Ok(found)
+    }
+
+    // The login of an email of an answer, if it is the name of another.
+    fn linking_login(
+        &self,
+        alloc: Global,
+        shared: &SharedEmails<'a>,
+        answer: &Tally<'a>,
+        email: &'a [u8],
+    ) -> Result<Option<&'a [u8]>, AllocError>
+        ensures { (h : Histories) (ts : List ATally) → AreLoginKeys shared.now h ts self.now
+            → IfOk result (λ found. option_copied found
+            ≡ login_in shared.now h ts (tally_of answer.now).contact email.now) }
+    {
+        let keys = email_keys(alloc, shared, email)?;
+        for key in &keys {
+            if self.is_name_of_another(key, answer) {
+                return Ok(Some(login(email)));
+            }
+        }
+        Ok(None)
+    }
+}
+
+// The keys of names, with the answers that have them.
+fn names_of<'a>(alloc: Global, participants: &[Member<'_, 'a>]) -> Result<Holders<'a>, AllocError>
+    ensures { IfOk result (HoldersOf (flat_map (pairs_by (λ c. keys c.name)) participants.now)) }
+{
+    let mut names = Holders::new(alloc);
+    for member in participants {
+        add_names(alloc, &mut names, member)?;
+    }
+    Ok(names)
+}
+
+fn add_names<'a>(
+    alloc: Global,
+    names: &mut Holders<'a>,
+    member: &Member<'_, 'a>,
+) -> Result<(), AllocError>
+    ensures { OnOk result ((pairs : List (Text × Contact)) → HoldersOf pairs names.old
+        → HoldersOf (pairs ++ pairs_by (λ c. keys c.name) member.now) names.new) }
+{
+    let answer = &member.answer;
+    if member.is_first {
+        names.add_all(name_keys(alloc, answer.name)?, answer)?;
+    }
+    names.add_all(name_keys(alloc, member.contact.name)?, answer)
+}
+
+// The keys of the logins of emails, with the answers that have them.
+fn logins_of<'a>(
+    alloc: Global,
+    shared: &SharedEmails<'a>,
+    participants: &[Member<'_, 'a>],
+) -> Result<Holders<'a>, AllocError>
+    ensures { IfOk result (HoldersOf
+        (flat_map (pairs_by (λ c. spec_email_keys shared.now c.email)) participants.now)) }
+{
+    let mut logins = Holders::new(alloc);
+    for member in participants {
+        add_logins(alloc, &mut logins, shared, member)?;
+    }
+    Ok(logins)
+}
+
+fn add_logins<'a>(
+    alloc: Global,
+    logins: &mut Holders<'a>,
+    shared: &SharedEmails<'a>,
+    member: &Member<'_, 'a>,
+) -> Result<(), AllocError>
+    ensures { OnOk result ((pairs : List (Text × Contact)) → HoldersOf pairs logins.old
+        → HoldersOf (pairs ++ pairs_by (λ c. spec_email_keys shared.now c.email) member.now) logins.new) }
+{
+    let answer = &member.answer;
+    if member.is_first {
+        logins.add_all(email_keys(alloc, shared, answer.email)?, answer)?;
+    }
+    logins.add_all(email_keys(alloc, shared, member.contact.email)?, answer)
+}
+
+// The keys of the first words of names, with the answers that have them and an email.
+fn first_names_of<'a>(alloc: Global, members: &[Member<'_, 'a>]) -> Result<Holders<'a>, AllocError>
+    ensures { IfOk result (HoldersOf (flat_map (pairs_by (λ c. spec_first_words c.name))
+        (filter (λ m. spec_has_text (answer_in m).email) members.now))) }
+{
+    let mut first_names = Holders::new(alloc);
+    for member in members {
+        if has_text(member.answer.email) {
+            add_first_names(alloc, &mut first_names, member)?;
+        }
+    }
+    Ok(first_names)
+}
+
+fn add_first_names<'a>(
+    alloc: Global,
+    first_names: &mut Holders<'a>,
+    member: &Member<'_, 'a>,
+) -> Result<(), AllocError>
+    ensures { OnOk result ((pairs : List (Text × Contact)) → HoldersOf pairs first_names.old
+        → HoldersOf (pairs ++ pairs_by (λ c. spec_first_words c.name) member.now) first_names.new) }
+{
+    let answer = &member.answer;
+    if member.is_first {
+        first_names.add_all(first_words(alloc, answer.name)?, answer)?;
+    }
+    first_names.add_all(first_words(alloc, member.contact.name)?, answer)
+}
+
+// Whether there is no login yet for the answer that first comes at this index.
+fn is_missing(found: &[Option<&[u8]>], first: usize) -> bool
+    ensures { result ≡ spec_is_missing (slice_get found.now first) }
+{
+    match found.get(first) {
+        Some(login) => login.is_none(),
+        None => false,
+    }
+}
+
+fn first_found<'a>(found: &[Option<&'a [u8]>]) -> &'a [u8]
+    ensures { result.now ≡ first_or_empty (flat_map option_to_list (map option_copied found.now)) }
+{
+    for login in found {
+        if let Some(login) = login {
+            return login;
+        }
+    }
+    b""
+}
+
+fn first_words(alloc: Global, name: &[u8]) -> Result<Vec<Vec<u8>>, AllocError>
+    ensures { IfOk result (λ found. texts found.items ≡ spec_first_words name.now) }
+{
+    Name::read(alloc, name)?.first_words(alloc)
+}
+
+fn name_keys(alloc: Global, name: &[u8]) -> Result<Vec<Vec<u8>>, AllocError>
+    ensures { IfOk result (λ found. texts found.items ≡ keys name.now) }
+{
+    Ok(Name::read(alloc, name)?.into_keys())
+}
+
+// The keys of the login of an email that one person has.
+fn email_keys<'a>(
+    alloc: Global,
+    shared: &SharedEmails<'a>,
+    email: &'a [u8],
+) -> Result<Vec<Vec<u8>>, AllocError>
+    ensures { IfOk result (λ found. texts found.items ≡ spec_email_keys shared.now email.now) }
+{
+    if shared.contains(email) {
+        return Ok(Vec::new(alloc));
+    }
+    login_keys(alloc, email)
+}
+
+/// The class of each contact, that of its answer, as a text: empty if there is no link to the answer.
+pub(crate) fn classes_by(
+    alloc: Global,
+    members: &[Member<'_, '_>],
+    links: Vec<Link>,
+) -> Result<Vec<Vec<u8>>, AllocError>
+    requires links { All (λ link. link.item < length members.now) links.items }
+    requires firsts { All (λ m. m.first < length members.now) members.now }
+    ensures { (h : Histories) (ts : List ATally) (marks_of : Contact → List Text) → AreMembers h ts members.now
+        → AreLinksOf marks_of members.now (links_of links.items) → IfOk result (λ classes. (class : Contact → Text)
+        × AreClassesBy marks_of (spec_answers h ts) class
+        × (map (λ v. folded v.items) classes.items ≡ map (λ m. class (answer_in m)) members.now)) }
+{
+    let linked = linked(alloc, members.len(), &links)?;
+    let classes = classes_of(alloc, members.len(), links)?;
+    let mut found = Vec::with_capacity(alloc, members.len())?;
+    for member in members {
+        let first = member.first;
+        found.push(class_text(alloc, linked[first], classes[first])?)?;
+    }
+    Ok(found)
+}
+
+// The digits of a class's number.
+fn class_text(alloc: Global, is_linked: bool, number: usize) -> Result<Vec<u8>, AllocError>
+    ensures { IfOk result (λ text. text.items ≡ (if is_linked then decimal number else [])) }
+{
+    if !is_linked {
+        return Ok(Vec::new(alloc));
+    }
+    let mut digits = Buffer::new();
+    Vec::from_slice(alloc, digits.format(number).as_bytes())
+}
+
+// Whether there is a link to each item.
+fn linked(alloc: Global, count: usize, links: &[Link]) -> Result<Vec<bool>, AllocError>
+    requires { All (λ link. link.item < count) links.now }
+    ensures len { IfOk result (λ linked. length linked.items ≡ count) }
+    ensures linked { IfOk result (λ linked. (item : ℕ) → item < count
+        → slice_get linked.items item ≡ Some (list_any (λ l. l.1 == item) (links_of links.now))) }
+{
+    let mut linked = vec![in alloc; false; count]?;
+    for link in links {
+        linked[link.item] = true;
+    }
+    Ok(linked)
+}
