@@ -52,6 +52,7 @@ PARTS = {
     "failures": ("runs programs when files, streams or memory fail", f"tests/failures.sh {CHECK} {VERIFY} {SHORTLOG}"),
     "refusals": ("refuses each request for memory of the programs in turn",
                  f"tests/refusals.py {DYNAMIC}"),
+    "replacing": ("makes the calls fail by which a file is replaced", f"tests/replacing.py {DYNAMIC.split()[1]}"),
     "memory": ("measures the memory for hostile mailmaps", f"tests/memory.py {CHECK} {VERIFY} {SHORTLOG}"),
     "streams": ("runs programs on streamed contacts", f"tests/streams.py {CHECK} {VERIFY}"),
     "examples": ("runs the examples on the pages", f"tests/examples.py {CHECK} {VERIFY} {SHORTLOG}"),

@@ -26,7 +26,9 @@ FILES = {
     "contacts": b"bob <BUGS@example.com>\nnot a contact\n",
     # One of these contacts has the email of the first, and one its name.
     "alike": b"bob <b@example.com>\nnot a contact\nBOB <B@example.com>\nbob <bob@example.com>\n",
+    "twice": b"bob <b@example.com>\nbob <b@example.com>\n",
 }
+ONCE = b"bob <b@example.com>\n"
 # A path of more than 256 bytes is copied when its file is opened. So many files make the lists of arguments and files
 # grow several times.
 LONG = "./" * 128 + "empty"
@@ -87,13 +89,25 @@ def refuse(refusing, mode, program, files):
     words, refusals = [*mode.before, *files, *mode.after], 0
     for result, was_refused in refusing.runs([program, *words], FILES[mode.stdin]):
         is_whole = result == (mode.status, mode.printed, mode.said)
-        if is_whole or (was_refused and is_refusal(mode, result)):
+        if not is_left(ONCE if is_whole and "--in-place" in mode.before else FILES["twice"]):
+            failed += 1
+            print(f"{mode.program} {' '.join(words)[:200]}: files are left otherwise")
+        elif is_whole or (was_refused and is_refusal(mode, result)):
             refusals += not is_whole
             passed += was_refused
         else:
             failed += 1
             print(f"{mode.program} {' '.join(words)[:200]}: {result}")
     return refusals
+
+
+def is_left(text):
+    """Whether the file `twice` has this text, and nothing is beside it. It is made again for the next run."""
+    has, lock = Path("twice").read_bytes(), Path("twice.lock")
+    is_alone = not lock.exists()
+    lock.unlink(missing_ok=True)
+    Path("twice").write_bytes(FILES["twice"])
+    return has == text and is_alone
 
 
 def main(programs):

@@ -27,7 +27,9 @@ sys.dont_write_bytecode = True
 sys.path.append(str(Path(__file__).resolve().parent.parent))
 import runs
 from runs import run, wants
-from hostile import CURE, LIMIT, REFUSED, hostile  # the file beside this one
+# the files beside this one
+from hostile import CURE, LIMIT, REFUSED, hostile
+from in_place import in_place, in_place_case
 
 VERSION = (Path(__file__).resolve().parents[2] / "VERSION").read_bytes().strip()
 
@@ -51,6 +53,7 @@ def wants_case(program, what, files, status, printed, pruning):
     ended, pruned, said = pruning
     wants(f"{what}, standard input", run(program, ["-"], files[0]), status, as_standard_input(printed))
     wants(f"{what}, pruned", run(program, ["--prune", "m1"]), ended, pruned, said)
+    in_place_case(program, what, files[0], ended, pruned, said)
     said = said.replace(b"git reads m1:", b"git reads <stdin>:")
     wants(f"{what}, standard input pruned", run(program, ["--prune", "-"], files[0]), ended, pruned, said)
     if ended == 0:
@@ -198,8 +201,8 @@ HELPS = {
                      b"git-reads no-effect itself-mapped unneeded no-contact same-email same-name git-answers\n",
 }
 USAGE_LINE = (
-    b"usage: mailmap_verify [--prune | --explain | --contacts CONTACTS | --suggest CONTACTS] [-S LEVEL] [-e KIND,..]\n"
-    b"     [-f FORMAT] [--stdin-name NAME] [--] [FILE..] | --help | --version\n"
+    b"usage: mailmap_verify [--prune [--in-place] | --explain | --contacts CONTACTS | --suggest CONTACTS]\n"
+    b"     [-S LEVEL] [-e KIND,..] [-f FORMAT] [--stdin-name NAME] [--] [FILE..] | --help | --version\n"
 )
 
 
@@ -250,6 +253,12 @@ def options(program):
         (["--suggest", "c", "-S", "note"], b"--suggest takes no --severity"),
         (["--prune", "-S", "error", "--foo"], b"--prune takes no --severity"),
         (["--foo", "--prune", "-S", "error"], b"unknown option: --foo"),
+        (["--in-place", "m1"], b"--in-place needs --prune"),
+        (["--in-place", "--", "m1"], b"--in-place needs --prune"),
+        (["m1", "--in-place", "--suggest", "c"], b"--in-place needs --prune"),
+        (["--in-place", "--prune", "--prune"], b"a second mode: --prune"),
+        (["--prune", "--in-place=m1"], b"unknown option: --in-place=m1"),
+        (["--in-place", "--prune", "--stdin-name=m", "m1"], b"--prune --in-place takes no --stdin-name"),
     ]:
         said = b"mailmap_verify: " + wrong + b"\n" + HELPS.get(wrong.split(b":")[0], b"") + USAGE_LINE
         wants(f"a misuse: {words}", run(program, words), 2, b"", said)
@@ -384,6 +393,7 @@ def main():
         options(program)
         filters(program)
         objects(program)
+        in_place(program)
         os.chdir("/")
     print(f"{count} stored mailmaps and {hostile_count} hostile ones, contacts of {explained_count} histories")
     print(f"verify: {runs.passed} passed, {runs.failed} failed")

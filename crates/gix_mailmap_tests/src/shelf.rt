@@ -5,6 +5,7 @@ use command_line::files::FileSystem;
 use std::alloc::Global;
 use std::io;
 use std::io::ErrorKind;
+use verify_command::task::Replacer;
 
 /// Has the same file at each path.
 #[derive(Clone, Copy)]
@@ -26,5 +27,16 @@ impl FileSystem for Shelf {
             Ok(contents) => Ok(contents),
             Err(_) => Err(ErrorKind::OutOfMemory),
         }
+    }
+}
+
+/// No file of it can be replaced.
+impl Replacer for Shelf {
+    ghost use Rattle.std.specs.Prelude.{⊤};
+
+    ghost has_replaced = { λ _ _. ⊤ };
+
+    fn replace(&mut self, _alloc: Global, _path: &[u8], _text: &[u8]) -> Result<(), ErrorKind> {
+        Err(ErrorKind::Unsupported)
     }
 }

@@ -137,7 +137,8 @@ fn performed<R: Read, W: Write>(
     let Ok(request) = verify_command::task::request_of(alloc, arguments) else {
         return Err(Failure::Memory);
     };
-    match verify_command::task::perform(&SHELF, alloc, &request, input, output) {
+    let mut folder = SHELF;
+    match verify_command::task::perform(&SHELF, &mut folder, alloc, &request, input, output) {
         Ok(_) => Ok(()),
         Err(TaskFailure::Run(failure)) => Err(failure),
         Err(_) => Err(Failure::Memory),
