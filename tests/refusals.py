@@ -69,6 +69,21 @@ MODES = [
     Mode(VERIFY, ["--suggest", "-"], ["mailmap"], "alike", 0,
          b"# 1 bob <b@example.com>\n# 1 BOB <B@example.com>\nbob <b@example.com> <b@example.com>\n\n"
          b"# 2 bob <b@example.com>\n# 1 bob <bob@example.com>\n#?bob <b@example.com> <bob@example.com>\n\n", True),
+    Mode(VERIFY, ["-f", "github", "twice"], ["mailmap"], "contacts", 1,
+         b"::warning file=twice,line=1,title=no-effect::no effect: twice:2 says the same\n"),
+    Mode(VERIFY, ["-f", "json", "--contacts", "alike"], ["mailmap"], "contacts", 1,
+         b'{"file":{"text":"mailmap"},"kind":"unneeded","level":"warning","line":1,'
+         b'"message":{"text":"no contact needs it"}}\n'
+         b'{"file":{"text":"alike"},"kind":"no-contact","level":"error","line":2,"message":{"text":"no contact"}}\n'
+         b'{"at":{"file":{"text":"alike"},"line":1},"beside":{"count":1,"email":{"text":"b@example.com"},'
+         b'"name":{"text":"bob"}},"count":1,"email":{"text":"B@example.com"},"file":{"text":"alike"},'
+         b'"kind":"same-email","level":"warning","line":3,"message":{"text":"BOB <B@example.com> (1) has the email of '
+         b'bob <b@example.com> (1)"},"name":{"text":"BOB"}}\n'
+         b'{"at":{"file":{"text":"alike"},"line":1},"beside":{"count":1,"email":{"text":"b@example.com"},'
+         b'"name":{"text":"bob"}},"count":1,"email":{"text":"bob@example.com"},"file":{"text":"alike"},'
+         b'"kind":"same-name","level":"note","line":4,"message":{"text":"bob <bob@example.com> (1) has the name of '
+         b'bob <b@example.com> (1)"},"name":{"text":"bob"}}\n', True),
+    Mode(VERIFY, ["--prune", "--in-place"], ["twice"], "contacts", 0, b""),
     Mode(SHORTLOG, ["-ne"], ["mailmap"], "contacts", 0, b"     1\tJoe R. Developer <joe@example.com>\n", True,
          b"mailmap_shortlog: lines without a contact: 1; the first is line 2\n"),
 ]
@@ -81,6 +96,15 @@ def is_refusal(mode, result):
     lines = printed.splitlines(True)
     begins = lines == mode.printed.splitlines(True)[:len(lines)] if mode.is_written_early else printed == b""
     return status == 2 and begins and said == b"%b: out of memory\n" % mode.program.encode()
+
+
+def is_left(text):
+    """Whether the file `twice` has this text, and nothing is beside it. It is made again for the next run."""
+    has, lock = Path("twice").read_bytes(), Path("twice.lock")
+    is_alone = not lock.exists()
+    lock.unlink(missing_ok=True)
+    Path("twice").write_bytes(FILES["twice"])
+    return has == text and is_alone
 
 
 def refuse(refusing, mode, program, files):
@@ -99,15 +123,6 @@ def refuse(refusing, mode, program, files):
             failed += 1
             print(f"{mode.program} {' '.join(words)[:200]}: {result}")
     return refusals
-
-
-def is_left(text):
-    """Whether the file `twice` has this text, and nothing is beside it. It is made again for the next run."""
-    has, lock = Path("twice").read_bytes(), Path("twice.lock")
-    is_alone = not lock.exists()
-    lock.unlink(missing_ok=True)
-    Path("twice").write_bytes(FILES["twice"])
-    return has == text and is_alone
 
 
 def main(programs):

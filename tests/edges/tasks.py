@@ -36,6 +36,13 @@ TASKS = [
     (VERIFY, "--prune", b"", 2, b".mailmap: No such file or directory"),
     (VERIFY, "one --prune", b"plain", 0, b"1"),
     (VERIFY, "--prune three", b"", 2, MISSING),
+    (VERIFY, "none --in-place one --prune", b"plain", 0, b""),
+    (VERIFY, "--prune --in-place one three", b"", 2, MISSING),
+    (VERIFY, "--prune --in-place -", b"", 2, b"-: No such file or directory"),
+    (VERIFY, "-f github one", b"", 1, b"::error file=one,line=1,title=no-email::no email in brackets\n"),
+    (VERIFY, "-f json --format=github --contacts - none", CONTACTS, 1,
+     b"::error file=<stdin>,line=2,title=no-contact::no contact\n"
+     b"::notice file=<stdin>,line=3,title=same-name::B <M@y> (1) has the name of b <A@x> (2)\n"),
     (VERIFY, "--explain one mapped", CONTACTS, 0,
      b"b <A@x> is M <m@y> by mapped:1\np\\x1b is no contact\nB <M@y> is not mapped\n"
      b"b <A@x> is M <m@y> by mapped:1\nm <q@x> is not mapped\n"),

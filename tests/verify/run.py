@@ -28,6 +28,7 @@ sys.path.append(str(Path(__file__).resolve().parent.parent))
 import runs
 from runs import run, wants
 # the files beside this one
+from formats import annotations, fields
 from hostile import CURE, LIMIT, REFUSED, hostile
 from in_place import in_place, in_place_case
 
@@ -196,7 +197,7 @@ def file_names(program):
 # what follows the message about an unknown value, before the usage
 HELPS = {
     b"unknown level": b"levels: error warning note\n",
-    b"unknown format": b"formats: gcc json\n",
+    b"unknown format": b"formats: gcc json github\n",
     b"unknown kind": b"kinds: no-email unclosed-email empty-email nothing-to-map unclosed-second-email ignored-text "
                      b"git-reads no-effect itself-mapped unneeded no-contact same-email same-name git-answers\n",
 }
@@ -324,6 +325,9 @@ def objects(program):
     def text(plain):
         return {"text": plain}
 
+    def named(name, email, count):
+        return {"name": text(name), "email": text(email), "count": count}
+
     Path("team").write_bytes(b"N <a@x>\nN <a@x>\nplain\nJ <j@y> \x1b\"\\\xe2\x80\xae\nK <k@y> \xff\n")
     Path("c").write_bytes(b"a <a@x>\nb <b@x>\nB <B@x>\nplain\nN <q@x>\nj <j@y>\nk <k@y>\n")
     effect = {"file": text("team"), "line": 1, "level": "warning", "kind": "no-effect",
@@ -349,22 +353,25 @@ def objects(program):
     status, printed, said = run(program, ["-f", "json", "-e", "no-effect,no-email,ignored-text", "--contacts", "c", "team"])
     want = [
         {"file": text("c"), "line": 3, "level": "warning", "kind": "same-email",
-         "message": text("B <B@x> (1) has the email of b <b@x> (1)"), "at": {"file": text("c"), "line": 2}},
+         "message": text("B <B@x> (1) has the email of b <b@x> (1)"), "at": {"file": text("c"), "line": 2},
+         **named("B", "B@x", 1), "beside": named("b", "b@x", 1)},
         {"file": text("c"), "line": 4, "level": "error", "kind": "no-contact", "message": text("no contact")},
         {"file": text("c"), "line": 5, "level": "note", "kind": "same-name",
-         "message": text("N <q@x> (1) has the name of N <a@x> (1)"), "at": {"file": text("c"), "line": 1}},
+         "message": text("N <q@x> (1) has the name of N <a@x> (1)"), "at": {"file": text("c"), "line": 1},
+         **named("N", "q@x", 1), "beside": named("N", "a@x", 1)},
     ]
     wants("objects of contacts", (status, [json.loads(line) for line in printed.splitlines()], said), 1, want, b"")
     # no other line is named for a shared email
     Path("c").write_bytes(b"Ann Lee <l@x>\nBob Roe <L@x>\nCy Doe <l@x>\nDan Poe <l@x>\n")
     status, printed, said = run(program, ["-f", "json", "--contacts", "c"])
     want = [{"file": text("c"), "line": 1, "level": "note", "kind": "shared-email",
-             "message": text("l@x is the email of several people (4)")}]
+             "message": text("l@x is the email of several people (4)"), "email": text("l@x"), "count": 4}]
     wants("an object of a shared email", (status, [json.loads(line) for line in printed.splitlines()], said), 0, want, b"")
     Path("c").write_bytes(b"Ann Lee <a@x>\nplain\nLee, Ann <b@x>\nLee, Ann <b@x>\n")
     status, printed, said = run(program, ["-f", "json", "-e", "no-contact", "--contacts", "c"])
     want = [{"file": text("c"), "line": 1, "level": "note", "kind": "similar-name",
-             "message": text("Ann Lee <a@x> (1) has a name like Lee, Ann <b@x> (2)"), "at": {"file": text("c"), "line": 3}}]
+             "message": text("Ann Lee <a@x> (1) has a name like Lee, Ann <b@x> (2)"), "at": {"file": text("c"), "line": 3},
+             **named("Ann Lee", "a@x", 1), "beside": named("Lee, Ann", "b@x", 2)}]
     wants("an object of a similar name", (status, [json.loads(line) for line in printed.splitlines()], said), 0, want, b"")
     Path("c").write_bytes(b"")
     Path("team").write_bytes(b"N <a@x>\n")
@@ -393,6 +400,8 @@ def main():
         options(program)
         filters(program)
         objects(program)
+        annotations(program)
+        fields(program)
         in_place(program)
         os.chdir("/")
     print(f"{count} stored mailmaps and {hostile_count} hostile ones, contacts of {explained_count} histories")

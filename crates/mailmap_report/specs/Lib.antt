@@ -1,4 +1,5 @@
 pub mod Explained
+pub mod Github
 pub mod Json
 pub mod Kinds
 pub mod Report

@@ -1,6 +1,5 @@
 -- The report of mailmaps and of contacts.
-use Rattle.std.specs.Prelude.{ℕ, ◌-◌, nat_lt, Bool, ◌&&◌, if◌then◌else◌, is_some, length, take, drop, ◌++◌, codes, ◌≡◌, ◌==◌, ◌||◌, true, false, List, [], ◌∷◌, Option, Some, None, decimal, map, option_to_list, slice_index_or, unwrap_or}
-use Rattle.bstr.specs.Utf8.{decoded}
+use Rattle.std.specs.Prelude.{ℕ, Bool, if◌then◌else◌, ◌++◌, codes, ◌==◌, ◌||◌, true, false, List, [], ◌∷◌, Option, Some, None, decimal, map, option_to_list, slice_index_or, unwrap_or}
 use Rattle.mailmap_entries.specs.Folding.{Text}
 use Rattle.std.specs.List.{flat_map, list_any}
 use Rattle.std.specs.Option.{option_map}
@@ -11,12 +10,14 @@ use Rattle.mailmap_findings.specs.Findings.{NewContact, Finding, FindingKind, fa
 use Rattle.mailmap_findings.specs.Git.{GitReading, Nothing, Entry, Lines}
 use Rattle.mailmap_redundancy.specs.declared.located.Position.{Position}
 use Rattle.command_line.specs.Shown.{shown}
-use Rattle.mailmap_report.specs.Json.{FileLine, Notice, object_line}
+use Rattle.mailmap_report.specs.Github.{annotation_line}
+use Rattle.mailmap_report.specs.Json.{FileLine, Named, Notice, no_name, object_line}
 use Rattle.mailmap_report.specs.Kinds.{finding_kind, kind_level, kind_name, level_name, contact_kind}
-use Rattle.mailmap_report.specs.Settings.{Choices, counts, is_json, is_reported}
+use Rattle.mailmap_report.specs.Settings.{Choices, counts, format_of, is_reported}
+use Rattle.mailmap_report.specs.declared.settings.Format.{Format}
+use Rattle.mailmap_report.specs.declared.settings.Format.TheVariants.{Gcc, Github, Json}
 use Rattle.mailmap_report.specs.declared.pieces.Piece.{Piece as the_piece}
 use Rattle.mailmap_contacts.specs.Contacts.{Tally}
-use Rattle.mailmap_snapshot.specs.Contacts.{contact_line}
 use Rattle.mailmap_suggestions.specs.ContactFindings.{ContactFinding, first_line_of, git_answers, is_like, no_contact, shared_email}
 use Rattle.mailmap_suggestions.specs.declared.findings.Likeness.{Likeness}
 use Rattle.mailmap_suggestions.specs.declared.findings.Likeness.TheVariants.{AlikeName, Email, Login, Name}
@@ -100,6 +101,32 @@ referred_line paths (no_effect beside is_same) = Some (place_at paths beside.buf
 referred_line paths (itself_mapped c to line second) = Some (place_at paths line.buffer line.line)
 referred_line paths _ = None
 
+-- ---- the names, emails and numbers that findings have
+
+abbrev pub named_contact : NewContact → Named
+named_contact c = record { name = c.name; email = Some c.email; count = None }
+
+-- of what git reads, the new name and email, or the number of lines
+abbrev pub named_by_git : GitReading → Named
+named_by_git Nothing = no_name
+named_by_git (Entry e) = record { name = e.new_name; email = e.new_email; count = None }
+named_by_git (Lines count) = record { name = None; email = None; count = Some count }
+
+-- and the old ones
+abbrev pub beside_by_git : GitReading → Option Named
+beside_by_git (Entry e) = Some (record { name = e.old_name; email = Some e.old_email; count = None })
+beside_by_git _ = None
+
+abbrev pub named_in : FindingKind → Named
+named_in (git_reads reading) = named_by_git reading
+named_in (itself_mapped c to line second) = named_contact c
+named_in _ = no_name
+
+abbrev pub beside_in : FindingKind → Option Named
+beside_in (git_reads reading) = beside_by_git reading
+beside_in (itself_mapped c to line second) = Some (named_contact to)
+beside_in _ = None
+
 -- ---- notices of findings
 
 abbrev pub finding_notice : List Text → Finding → Notice
@@ -108,6 +135,8 @@ finding_notice paths f = record {
   place = place_at paths f.position.buffer f.position.line;
   message = message_text paths f.kind;
   other = referred_line paths f.kind;
+  named = named_in f.kind;
+  beside = beside_in f.kind;
 }
 
 -- a notice, before escapes
@@ -135,9 +164,14 @@ text_of pieces = flat_map (λ p. p.text) pieces
 
 -- ---- the report
 
--- a line or an object, as the format asks for; nothing if the kind is not reported
+abbrev pub formatted : Format → Notice → Text
+formatted Gcc n = shown_line (notice_text n)
+formatted Json n = object_line n
+formatted Github n = annotation_line n
+
+-- as the format asks for; nothing if the kind is not reported
 abbrev pub reported_text : Choices → Notice → Text
-reported_text c n = if is_reported c n.kind then (if is_json c then object_line n else shown_line (notice_text n)) else []
+reported_text c n = if is_reported c n.kind then formatted (format_of c) n else []
 
 abbrev pub notice_piece : Choices → Notice → Piece
 notice_piece c n = record { text = reported_text c n; counts = counts c n.kind }
@@ -179,6 +213,19 @@ abbrev pub compared_line : Text → ContactFinding → Option FileLine
 compared_line file (is_like likeness a p) = Some (record { file = file; line = p.seen.first_line })
 compared_line file _ = None
 
+abbrev pub named_tally : Tally → Named
+named_tally a = record { name = Some a.contact.name; email = Some a.contact.email; count = Some a.seen.count }
+
+abbrev pub named_contact_in : ContactFinding → Named
+named_contact_in (no_contact line) = no_name
+named_contact_in (shared_email email seen) = record { name = None; email = Some email; count = Some seen.count }
+named_contact_in (is_like likeness a p) = named_tally a
+named_contact_in (git_answers a) = named_tally a
+
+abbrev pub compared_contact : ContactFinding → Option Named
+compared_contact (is_like likeness a p) = Some (named_tally p)
+compared_contact _ = None
+
 -- `file` is the name of the file of contacts
 abbrev pub contact_notice : Text → ContactFinding → Notice
 contact_notice file f = record {
@@ -186,6 +233,8 @@ contact_notice file f = record {
   place = record { file = file; line = first_line_of f };
   message = contact_words f;
   other = compared_line file f;
+  named = named_contact_in f;
+  beside = compared_contact f;
 }
 
 -- ---- the report with contacts
@@ -197,6 +246,8 @@ remark_notice paths (remark_unneeded p) = record {
   place = place_at paths p.buffer p.line;
   message = codes "no contact needs it";
   other = None;
+  named = no_name;
+  beside = None;
 }
 
 -- the remarks on the mailmaps, and after them the findings about the contacts

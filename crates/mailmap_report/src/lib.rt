@@ -3,6 +3,7 @@
 #![tactic(auto)]
 
 pub mod explanation;
+mod github;
 mod json;
 pub mod kinds;
 mod message;

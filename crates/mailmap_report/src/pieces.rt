@@ -9,10 +9,11 @@ ghost use Rattle.mailmap_report.specs.Report.{report_pieces, reported_text, show
 ghost use Rattle.mailmap_report.specs.Settings.{choices_of};
 ghost use Rattle.mailmap_suggestions.specs.FindingViews.{finding_view};
 
+use crate::github::annotation_line;
 use crate::json::object_line;
 use crate::notice::{Notice, contact_notice, finding_notice, remark_notice};
 use crate::places::push_place;
-use crate::settings::Settings;
+use crate::settings::{Format, Settings};
 use command_line::shown::{may_need_escapes, push_shown};
 use mailmap_findings::remarks::Remarks;
 use mailmap_findings::verify::Findings;
@@ -128,10 +129,11 @@ fn formatted(alloc: Global, settings: &Settings, notice: &Notice<'_>) -> Result<
     if !settings.reports(notice.kind) {
         return Ok(Vec::new(alloc));
     }
-    if settings.is_json() {
-        return object_line(alloc, notice);
+    match settings.format() {
+        Format::Gcc => line_of(alloc, notice),
+        Format::Json => object_line(alloc, notice),
+        Format::Github => annotation_line(alloc, notice),
     }
-    line_of(alloc, notice)
 }
 
 // The line of a notice, as in `team:3: error: no email in brackets [no-email]`.

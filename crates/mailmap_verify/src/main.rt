@@ -118,7 +118,7 @@ fn help_lines(alloc: Global, error: &ParseError) -> Result<Vec<u8>, AllocError> 
             lines.extend_from_slice(b"levels: error warning note\n")?
         }
         ParseError::UnknownValue(Setting::Format, _) => {
-            lines.extend_from_slice(b"formats: gcc json\n")?
+            lines.extend_from_slice(b"formats: gcc json github\n")?
         }
         ParseError::UnknownValue(Setting::Exclude, _) => {
             lines.extend_from_slice(b"kinds:")?;

@@ -9,7 +9,7 @@ use Rattle.command_line.specs.Files.{default_path, texts}
 use Rattle.mailmap_report.specs.Kinds.{kind_named}
 use Rattle.mailmap_report.specs.Settings.{Choices, choices_of, input_name, no_choices}
 use Rattle.mailmap_report.specs.declared.settings.Format.{Format}
-use Rattle.mailmap_report.specs.declared.settings.Format.TheVariants.{Gcc, Json}
+use Rattle.mailmap_report.specs.declared.settings.Format.TheVariants.{Gcc, Github, Json}
 use Rattle.verify_command.specs.declared.asked.Mode.{Mode}
 use Rattle.verify_command.specs.declared.asked.Mode.TheVariants.{Help, Version, Verify, Prune, PruneInPlace, Explain, Contacts, Suggest}
 use Rattle.verify_command.specs.declared.asked.ParseError.{ParseError}
@@ -173,7 +173,7 @@ level_named name = if bytes_eq name (codes "error") then Some Error
 
 abbrev pub format_named : Text → Option Format
 format_named name = if bytes_eq name (codes "gcc") then Some Gcc else if bytes_eq name (codes "json") then Some Json
-    else None
+    else if bytes_eq name (codes "github") then Some Github else None
 
 -- the names between commas
 abbrev pub names_in : Text → List Text

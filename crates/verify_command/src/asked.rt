@@ -16,7 +16,7 @@ Prints what is wrong with the mailmaps, or as one of these modes:
 Options:
   -S, --severity LEVEL     reports only findings of this level or worse: error, warning or note
   -e, --exclude KIND,..    leaves findings of these kinds out
-  -f, --format FORMAT      prints findings as gcc does, the default, or as json
+  -f, --format FORMAT      prints findings as gcc does, the default, or as json, or as github annotations
       --stdin-name NAME    the name of standard input in messages
   -h, --help               prints this
       --version            prints the version

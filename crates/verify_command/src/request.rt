@@ -392,6 +392,7 @@ fn format_named(name: &[u8]) -> Option<Format>
     match name {
         _ if name == b"gcc".as_slice() => Some(Format::Gcc),
         _ if name == b"json".as_slice() => Some(Format::Json),
+        _ if name == b"github".as_slice() => Some(Format::Github),
         _ => None,
     }
 }
