@@ -3,12 +3,13 @@ ghost use Rattle.std.specs.Prelude.{◌≡◌, ◌++◌, ◌∷◌, [], IfOk, Is
 ghost use Rattle.std.specs.List.{AllByRecursion, flat_map};
 ghost use Rattle.bstr.specs.Text.{lines_of};
 ghost use Rattle.mailmap_entries.specs.Folding.{Text};
-ghost use Rattle.contact_counter.specs.Contacts.{line_tally, once, unless_contact};
+ghost use Rattle.std.specs.Option.{option_map};
+ghost use Rattle.contact_counter.specs.Contacts.{once, raw_contact, raw_line_tally, trimmed_tally, unless_contact};
 ghost use Rattle.contact_counter.specs.Counts.{AreContactsOf, HasCounted, SameTallies, key_tally, slot_tally};
 
 use crate::occurrences::{Occurrences, add_to, sum_of};
 use bstr::ByteSlice;
-use mailmap_grammar::contacts::{ParsedContact, contact_of, trim};
+use mailmap_grammar::contacts::trim;
 use mailmap_grammar::hashing::hash_of;
 use std::alloc::{AllocError, Global};
 use std::collections::BTreeMap;
@@ -26,7 +27,7 @@ const LONGEST: usize = 256;
 #[derive(Drop)]
 pub struct Contacts {
     pub(crate) tallies: BTreeMap<(Vec<u8>, Vec<u8>), Occurrences>,
-    pub(crate) lines_without_contact: Vec<usize>,
+    raw: RawContacts,
 }
 
 impl Model for Contacts {
@@ -35,7 +36,27 @@ impl Model for Contacts {
 
     ghost Value = { Tallied };
 
-    ghost view = { λ s. record { tallies = map key_tally s.tallies.entries; lines_without_contact = s.lines_without_contact.items } };
+    ghost view = { λ s. record {
+      tallies = map key_tally s.tallies.entries;
+      raw = s.raw.raw;
+      lines_without_contact = s.raw.lines_without_contact;
+    } };
+}
+
+// The same contacts, with the white space around their texts.
+#[derive(Drop)]
+struct RawContacts {
+    tallies: BTreeMap<(Vec<u8>, Vec<u8>), Occurrences>,
+    lines_without_contact: Vec<usize>,
+}
+
+impl Model for RawContacts {
+    ghost use Rattle.std.specs.Prelude.{map};
+    ghost use Rattle.contact_counter.specs.Counts.{Raw, key_tally};
+
+    ghost Value = { Raw };
+
+    ghost view = { λ s. record { raw = map key_tally s.tallies.entries; lines_without_contact = s.lines_without_contact.items } };
 }
 
 // A line with a contact, the last but for long ones whose hashes select this slot, and its occurrences that aren't in
@@ -53,7 +74,7 @@ pub(crate) struct Slot {
 /// distinct contacts, and with the number of lines that are neither blank nor contacts.
 #[derive(Drop)]
 pub struct ContactCounter {
-    contacts: Contacts,
+    contacts: RawContacts,
     slots: Vec<Slot>,
     // how many lines were added
     lines: usize,
@@ -69,7 +90,7 @@ impl Model for ContactCounter {
 
     ghost view = { λ s. record {
       contacts = record {
-        tallies = s.contacts.tallies ++ flat_map slot_tally s.slots.items;
+        raw = s.contacts.raw ++ flat_map slot_tally s.slots.items;
         lines_without_contact = s.contacts.lines_without_contact;
       };
       lines = s.lines;
@@ -85,7 +106,7 @@ impl ContactCounter {
     {
         let slots = empty_slots(alloc)?;
         Ok(ContactCounter {
-            contacts: Contacts {
+            contacts: RawContacts {
                 tallies: BTreeMap::new(alloc),
                 lines_without_contact: Vec::new(alloc),
             },
@@ -128,7 +149,7 @@ impl ContactCounter {
         for slot in self.slots {
             contacts.add_slot(slot)?;
         }
-        Ok(contacts)
+        contacts.trimmed()
     }
 }
 
@@ -144,13 +165,22 @@ impl Contacts {
     pub fn lines_without_contact(&self) -> &[usize]
         ensures { result.now ≡ self.now.lines_without_contact }
     {
-        self.lines_without_contact.as_slice()
+        self.raw.lines_without_contact.as_slice()
     }
 
+    /// The occurrences of each contact by the texts before its brackets and in them, as they are.
+    pub fn raw_tallies(&self) -> &BTreeMap<(Vec<u8>, Vec<u8>), Occurrences>
+        ensures { map key_tally result.now.entries ≡ self.now.raw }
+    {
+        &self.raw.tallies
+    }
+}
+
+impl RawContacts {
     // Adds a line. A contact that isn't in its slot takes it, unless its line is long.
     fn add_line(&mut self, slot: &mut Slot, line: &[u8], number: usize) -> Result<(), AllocError>
-        ensures tallies { OnOk result (SameTallies (self.new.tallies ++ slot_tally slot.new)
-            ((self.old.tallies ++ slot_tally slot.old) ++ line_tally number line.now)) }
+        ensures raw { OnOk result (SameTallies (self.new.raw ++ slot_tally slot.new)
+            ((self.old.raw ++ slot_tally slot.old) ++ raw_line_tally number line.now)) }
         ensures lines_without_contact { ((n : ℕ) → unless_contact n slot.old.line.items ≡ [])
             → OnOk result (self.new.lines_without_contact
             ≡ self.old.lines_without_contact ++ unless_contact number line.now) }
@@ -160,7 +190,7 @@ impl Contacts {
         if count_again(slot, line, number) {
             return Ok(());
         }
-        let ParsedContact::Closed { name, email, .. } = contact_of(line) else {
+        let Some((name, email)) = raw_contact(line) else {
             if !trim(line).is_empty() {
                 self.lines_without_contact.push(number)?;
             }
@@ -177,12 +207,12 @@ impl Contacts {
 
     // Adds the occurrences in a slot.
     fn add_slot(&mut self, slot: Slot) -> Result<(), AllocError>
-        ensures tallies { OnOk result (SameTallies self.new.tallies (self.old.tallies ++ slot_tally slot)) }
+        ensures raw { OnOk result (SameTallies self.new.raw (self.old.raw ++ slot_tally slot)) }
         ensures lines_without_contact { self.new.lines_without_contact ≡ self.old.lines_without_contact }
     {
-        match contact_of(slot.line.as_slice()) {
-            ParsedContact::Closed { name, email, .. } => self.add_contact(name, email, slot.seen),
-            _ => Ok(()),
+        match raw_contact(slot.line.as_slice()) {
+            Some((name, email)) => self.add_contact(name, email, slot.seen),
+            None => Ok(()),
         }
     }
 
@@ -192,7 +222,7 @@ impl Contacts {
         email: &[u8],
         seen: Occurrences,
     ) -> Result<(), AllocError>
-        ensures tallies { OnOk result (SameTallies self.new.tallies (self.old.tallies
+        ensures raw { OnOk result (SameTallies self.new.raw (self.old.raw
             ++ record { contact = record { name = name.now; email = email.now }; seen = seen } ∷ [])) }
         ensures lines_without_contact { self.new.lines_without_contact ≡ self.old.lines_without_contact }
     {
@@ -201,6 +231,34 @@ impl Contacts {
         let email = Vec::from_slice(alloc, email)?;
         add_to(&mut self.tallies, (name, email), seen)
     }
+
+    // The contacts with and without the white space around their texts.
+    fn trimmed(self) -> Result<Contacts, AllocError>
+        ensures tallies { IfOk result (λ contacts. SameTallies contacts.tallies (map trimmed_tally self.raw)) }
+        ensures raw { IfOk result (λ contacts. contacts.raw ≡ self.raw) }
+        ensures lines_without_contact { IfOk result (λ contacts.
+            contacts.lines_without_contact ≡ self.lines_without_contact) }
+    {
+        let alloc = *self.lines_without_contact.allocator();
+        let mut tallies = BTreeMap::new(alloc);
+        for ((name, email), seen) in self.tallies.iter() {
+            let name = Vec::from_slice(alloc, trim(name.as_slice()))?;
+            let email = Vec::from_slice(alloc, trim(email.as_slice()))?;
+            add_to(&mut tallies, (name, email), *seen)?;
+        }
+        Ok(Contacts { tallies, raw: self })
+    }
+}
+
+// The texts before the brackets of a line and in them.
+#[tactic(auto, using(mailmap_grammar::proofs::SplitOnce::split_laws))]
+fn raw_contact(line: &[u8]) -> Option<(&[u8], &[u8])>
+    ensures { option_map (λ c. record { name = c.0.now; email = c.1.now }) result ≡ raw_contact line.now }
+{
+    let opening = line.find_byte(b'<')?;
+    let after = &line[opening + 1..];
+    let closing = after.find_byte(b'>')?;
+    Some((&line[..opening], &after[..closing]))
 }
 
 fn once_on(line: usize) -> Occurrences
@@ -233,7 +291,7 @@ fn empty_slots(alloc: Global) -> Result<Vec<Slot>, AllocError>
 fn count_again(slot: &mut Slot, line: &[u8], number: usize) -> bool
     ensures own { IsTrue result → slot.old.line.items ≡ line.now }
     ensures again { IsTrue result → SameTallies (slot_tally slot.new)
-        (slot_tally slot.old ++ line_tally number line.now) }
+        (slot_tally slot.old ++ raw_line_tally number line.now) }
     ensures line { slot.new.line.items ≡ slot.old.line.items }
     ensures other { IsFalse result → slot.new ≡ slot.old }
 {

@@ -3,14 +3,14 @@ use Rattle.std.proofs.lemmas.Result.{on_ok_weaker}
 use Rattle.contact_counter.specs.Contacts.{Contact, Tally, seen_where}
 use Rattle.contact_counter.specs.Counts.{key_contact, key_tally}
 use Rattle.contact_counter.proofs.Entries.{tallies_more}
-use Rattle.contact_counter.proofs.counter.Contacts.add_contact.Goals as goal
+use Rattle.contact_counter.proofs.counter.RawContacts.add_contact.Goals as goal
 
-pub returns-clause-tallies : goal.returns-clause-tallies
-returns-clause-tallies c =
+pub returns-clause-raw : goal.returns-clause-raw
+returns-clause-raw c =
     let es = c.self.inside.tallies.entries in
     let one : Contact → List Tally = λ contact. record { contact = contact; seen = c.args.seen } ∷ [] in
     on_ok_weaker c.add_to.result (λ more test. tallies_more key_contact es c.add_to.new.tallies.entries
     (c.in_ok-name.name, c.in_ok-email.email) c.args.seen more test ∙ (λ i. seen_where test (map key_tally es
     ++ one (record { name = c.in_ok-name.ensures.items i; email = c.in_ok-email.ensures.items i })))
-    ∙ ap (λ s. seen_where test (s.tallies ++ one (record { name = c.args.name.now; email = c.args.email.now })))
+    ∙ ap (λ s. seen_where test (s.raw ++ one (record { name = c.args.name.now; email = c.args.email.now })))
     c.self.view_is) c.add_to.ensures.ok
