@@ -1,16 +1,20 @@
 #!/usr/bin/env bash
-# Runs the tests of the library in Rattle, compiled with checks but without proving them. The gate proves them, too.
+# Runs the tests in Rattle, compiled with checks but without proving them. The gate proves them, too.
 set -euo pipefail
-cd "$(dirname "$0")/../crates/gix_mailmap_tests"
+crates="$(dirname "$0")/../crates"
 said="$(mktemp)"
 trap 'rm -f "$said"' EXIT
-status=0
-rt try --test > "$said" 2>&1 || status=$?
-passed="$(grep -c '^test .*\.\.\. ok$' "$said" || true)"
+passed=0
 failed=0
-if [ "$status" != 0 ] || [ "$passed" = 0 ]; then
-    failed=1
-    grep -v ' ok$' "$said" | tail -n 40 || true
-fi
+for crate in gix_mailmap_tests command_tests; do
+    status=0
+    (cd "$crates/$crate" && rt try --test) > "$said" 2>&1 || status=$?
+    count="$(grep -c '^test .*\.\.\. ok$' "$said" || true)"
+    passed=$((passed + count))
+    if [ "$status" != 0 ] || [ "$count" = 0 ]; then
+        failed=$((failed + 1))
+        grep -v ' ok$' "$said" | tail -n 40 || true
+    fi
+done
 echo "library: $passed passed, $failed failed"
 [ "$failed" = 0 ]

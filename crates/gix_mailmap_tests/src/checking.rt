@@ -1,104 +1,106 @@
-use gix_mailmap::check::{ContactStream, check, compact, split};
+use crate::rows::{Row, assert_rows, is_text};
+use mailmap_snapshot::check::{ContactStream, check, compact, split};
 use std::alloc::{AllocError, Global};
 
-const TEAM: &[u8] = b"
-Joe R. Developer <joe@example.com> <bugs@example.com>
-Jane Doe <jane@example.com> Jane <bugs@example.com>
-";
-
 /// Mailmaps, lines of contacts, and the answers.
-type Checked = (&'static [&'static [u8]], &'static [u8], &'static [u8]);
+struct Checked(&'static [&'static [u8]], &'static [u8], &'static [u8]);
 
-static CHECKED: [Checked; 10] = [
-    (
-        &[b"Joe R. Developer <joe@example.com> <bugs@example.com>\n"],
-        b"bob <BUGS@example.com>\n",
-        b"Joe R. Developer <joe@example.com>\n",
-    ),
-    (
-        &[TEAM],
-        b"JANE <Bugs@example.com>",
-        b"Jane Doe <jane@example.com>\n",
-    ),
-    (
-        &[TEAM],
-        b"bob <BUGS@example.com>\nnot a contact\n",
-        b"Joe R. Developer <joe@example.com>\nnot a contact\n",
-    ),
-    (&[b"N <a@x>", b"M <a@x>"], b"b <A@x>", b"M <a@x>\n"),
-    (&[b"N <n@x> <a@x>"], b"b <A@x>", b"N <n@x>\n"),
-    (
-        &[],
-        b"  Bob  < q@z > rest\r\n<>\n\nopen <x",
-        b"Bob <q@z>\n<>\n\nopen <x\n",
-    ),
-    (&[], b"x\r\ny\r", b"x\ny\r\n"),
-    (&[], b"# c <a@x>\n #\n", b"# c <a@x>\n #\n"),
-    (&[], b"", b""),
-    (&[TEAM], b"", b""),
-];
-
-fn are_answered(alloc: Global, (buffers, contacts, answers): &Checked) -> Result<bool, AllocError> {
-    Ok(check(alloc, buffers, contacts)?.as_slice() == *answers)
+impl Row for Checked {
+    fn is_right(&self, alloc: Global) -> bool {
+        let Checked(buffers, contacts, answers) = self;
+        is_text(check(alloc, buffers, contacts), answers)
+            && is_text(streamed(alloc, buffers, contacts), answers)
+    }
 }
 
-/// Whether a stream that gets lines byte by byte has these answers.
-fn are_answered_in_turn(
-    alloc: Global,
-    (buffers, contacts, answers): &Checked,
-) -> Result<bool, AllocError> {
+/// What a stream answers that gets lines byte by byte.
+fn streamed(alloc: Global, buffers: &[&[u8]], contacts: &[u8]) -> Result<Vec<u8>, AllocError> {
     let mut stream = ContactStream::new(alloc, buffers)?;
     let mut text = Vec::new(alloc);
-    for byte in *contacts {
+    for byte in contacts {
         stream.push(&[*byte], &mut text)?;
     }
     stream.finish(&mut text)?;
-    Ok(text.as_slice() == *answers)
+    Ok(text)
 }
 
 #[test]
-fn contacts_are_answered_and_other_lines_are_kept(rt: HostRuntime) -> Result<(), AllocError> {
-    for (i, row) in CHECKED.iter().enumerate() {
-        assert!(rt; are_answered(rt.alloc(), row)?, "row {i}");
-        assert!(rt; are_answered_in_turn(rt.alloc(), row)?, "row {i}");
-    }
-    Ok(())
-}
-
-#[test]
-fn the_first_line_of_two_dashes_parts_an_input(rt: HostRuntime) {
-    static TABLE: [(&[u8], &[u8], &[u8]); 8] = [
-        (b"a\n--\nb", b"a\n", b"b"),
-        (b"a\n--\nb\n--\nc", b"a\n", b"b\n--\nc"),
-        (b"--", b"", b""),
-        (b"a\n -- \n", b"", b"a\n -- \n"),
-        (b"--\r\nx", b"", b"x"),
-        (b"--\r", b"", b"--\r"),
-        (b"a--\n---\n", b"", b"a--\n---\n"),
-        (b"", b"", b""),
+fn contacts_are_answered_and_other_lines_are_kept(rt: HostRuntime) {
+    const TEAM: &[u8] = b"
+Joe R. Developer <joe@example.com> <bugs@example.com>
+Jane Doe <jane@example.com> Jane <bugs@example.com>
+";
+    static TABLE: [Checked; 10] = [
+        Checked(
+            &[b"Joe R. Developer <joe@example.com> <bugs@example.com>\n"],
+            b"bob <BUGS@example.com>\n",
+            b"Joe R. Developer <joe@example.com>\n",
+        ),
+        Checked(
+            &[TEAM],
+            b"JANE <Bugs@example.com>",
+            b"Jane Doe <jane@example.com>\n",
+        ),
+        Checked(
+            &[TEAM],
+            b"bob <BUGS@example.com>\nnot a contact\n",
+            b"Joe R. Developer <joe@example.com>\nnot a contact\n",
+        ),
+        Checked(&[b"N <a@x>", b"M <a@x>"], b"b <A@x>", b"M <a@x>\n"),
+        Checked(&[b"N <n@x> <a@x>"], b"b <A@x>", b"N <n@x>\n"),
+        Checked(
+            &[],
+            b"  Bob  < q@z > rest\r\n<>\n\nopen <x",
+            b"Bob <q@z>\n<>\n\nopen <x\n",
+        ),
+        Checked(&[], b"x\r\ny\r", b"x\ny\r\n"),
+        Checked(&[], b"# c <a@x>\n #\n", b"# c <a@x>\n #\n"),
+        Checked(&[], b"", b""),
+        Checked(&[TEAM], b"", b""),
     ];
-    for (i, (input, before, after)) in TABLE.iter().enumerate() {
-        assert!(rt; split(input) == (*before, *after), "row {i}");
+    assert_rows(&rt, &TABLE);
+}
+
+/// An input, and what comes before and after its first line of two dashes.
+struct Split(&'static [u8], &'static [u8], &'static [u8]);
+
+impl Row for Split {
+    fn is_right(&self, _alloc: Global) -> bool {
+        let (before, after) = split(self.0);
+        before == self.1 && after == self.2
     }
 }
 
-fn are_written(alloc: Global, buffers: &[&[u8]], want: &[u8]) -> Result<bool, AllocError> {
-    Ok(compact(alloc, buffers)?.as_slice() == want)
+/// Mailmaps, and what they are written as.
+struct Compacted(&'static [&'static [u8]], &'static [u8]);
+
+impl Row for Compacted {
+    fn is_right(&self, alloc: Global) -> bool {
+        is_text(compact(alloc, self.0), self.1)
+    }
 }
 
 #[test]
-fn mailmaps_are_written_as_one(rt: HostRuntime) -> Result<(), AllocError> {
-    static TABLE: [(&[&[u8]], &[u8]); 4] = [
-        (&[], b""),
-        (&[b"N <a@x>", b"M <A@x>"], b" M <a@x>\n"),
-        (
+fn inputs_are_parted_and_mailmaps_written_as_one(rt: HostRuntime) {
+    static PARTED: [Split; 8] = [
+        Split(b"a\n--\nb", b"a\n", b"b"),
+        Split(b"a\n--\nb\n--\nc", b"a\n", b"b\n--\nc"),
+        Split(b"--", b"", b""),
+        Split(b"a\n -- \n", b"", b"a\n -- \n"),
+        Split(b"--\r\nx", b"", b"x"),
+        Split(b"--\r", b"", b"--\r"),
+        Split(b"a--\n---\n", b"", b"a--\n---\n"),
+        Split(b"", b"", b""),
+    ];
+    assert_rows(&rt, &PARTED);
+    static WRITTEN: [Compacted; 4] = [
+        Compacted(&[], b""),
+        Compacted(&[b"N <a@x>", b"M <A@x>"], b" M <a@x>\n"),
+        Compacted(
             &[b" # c <a@x>\nJane <j@x> <>\n<n@y> Bob <A@X>"],
             b" Jane <j@x> <>\n # c <a@x>\n <n@y> Bob <a@x>\n",
         ),
-        (&[b"plain\n# c <a@x>", b"<a@x>"], b""),
+        Compacted(&[b"plain\n# c <a@x>", b"<a@x>"], b""),
     ];
-    for (i, (buffers, want)) in TABLE.iter().enumerate() {
-        assert!(rt; are_written(rt.alloc(), buffers, want)?, "row {i}");
-    }
-    Ok(())
+    assert_rows(&rt, &WRITTEN);
 }

@@ -1,66 +1,64 @@
-use crate::given::{hash_of, signature};
-use gix_mailmap::date::Time;
-use std::cmp::Ordering;
+use crate::rows::{Row, ascend, assert_rows};
+use mailmap_snapshot::actor::SignatureRef;
+use mailmap_snapshot::date::Time;
+use std::alloc::Global;
 
-fn is_read_as(text: &str, fields: Option<(i64, i32)>) -> bool {
-    let read = Time::read(text);
-    read.map(|time| (time.seconds, time.offset)) == fields
-        && signature(b"N", b"a@x", text).time() == read
-}
+/// A text, and the seconds and the offset of its time.
+struct Read(&'static str, Option<(i64, i32)>);
 
-#[test]
-fn a_time_is_read_from_its_text(rt: HostRuntime) {
-    static TABLE: [(&str, Option<(i64, i32)>); 19] = [
-        ("1711398853 +0800", Some((1711398853, 28800))),
-        ("-9223372036854775808 -0000", Some((i64::MIN, 0))),
-        ("9223372036854775807 +0000", Some((i64::MAX, 0))),
-        ("0000000000000000000000001 +0130", Some((1, 5400))),
-        ("-0 -0730", Some((0, -27000))),
-        ("1 +9999", Some((1, 362340))),
-        ("1 -9999", Some((1, -362340))),
-        ("9223372036854775808 +0000", None),
-        ("-9223372036854775809 +0000", None),
-        ("1 +130", None),
-        ("1 +00000", None),
-        ("1 0000", None),
-        ("+1 +0000", None),
-        ("- +0000", None),
-        ("1  +0000", None),
-        (" 1 +0000", None),
-        ("1 +0000 ", None),
-        ("1", None),
-        ("", None),
-    ];
-    for (i, (text, fields)) in TABLE.iter().enumerate() {
-        assert!(rt; is_read_as(text, *fields), "row {i}");
+impl Row for Read {
+    fn is_right(&self, _alloc: Global) -> bool {
+        let Read(text, fields) = self;
+        let time = match fields {
+            Some((seconds, offset)) => Some(time(*seconds, *offset)),
+            None => None,
+        };
+        let commit = SignatureRef {
+            name: b"N",
+            email: b"a@x",
+            time: text,
+        };
+        Time::read(text) == time && commit.time() == time
     }
-}
-
-fn compare_as(one: &Time, other: &Time, order: Ordering) -> bool {
-    one.cmp(other) == order
-        && (one == other) == order.is_eq()
-        && (order.is_ne() || hash_of(one) == hash_of(other))
 }
 
 fn time(seconds: i64, offset: i32) -> Time {
     Time { seconds, offset }
 }
 
-/// By the seconds, and then by the offset. The default is the start of 1970.
+/// They ascend by the seconds, and then by the offset. The default is the start of 1970.
 #[test]
-fn times_ascend(rt: HostRuntime) {
+fn times_are_read_and_ascend(rt: HostRuntime) {
+    static TABLE: [Read; 19] = [
+        Read("1711398853 +0800", Some((1711398853, 28800))),
+        Read("-9223372036854775808 -0000", Some((i64::MIN, 0))),
+        Read("9223372036854775807 +0000", Some((i64::MAX, 0))),
+        Read("0000000000000000000000001 +0130", Some((1, 5400))),
+        Read("-0 -0730", Some((0, -27000))),
+        Read("1 +9999", Some((1, 362340))),
+        Read("1 -9999", Some((1, -362340))),
+        Read("9223372036854775808 +0000", None),
+        Read("-9223372036854775809 +0000", None),
+        Read("1 +130", None),
+        Read("1 +00000", None),
+        Read("1 0000", None),
+        Read("+1 +0000", None),
+        Read("- +0000", None),
+        Read("1  +0000", None),
+        Read(" 1 +0000", None),
+        Read("1 +0000 ", None),
+        Read("1", None),
+        Read("", None),
+    ];
+    assert_rows(&rt, &TABLE);
     let ascending = [
         time(-1, 60),
-        Time::default(),
+        time(0, 0),
         time(1, -60),
         time(1, 0),
         time(1, 60),
         time(2, -60),
     ];
-    assert!(rt; ascending[1] == time(0, 0));
-    for (i, one) in ascending.iter().enumerate() {
-        for (j, other) in ascending.iter().enumerate() {
-            assert!(rt; compare_as(one, other, i.cmp(&j)), "rows {i} and {j}");
-        }
-    }
+    assert!(rt; ascend(&ascending, &ascending));
+    assert!(rt; Time::default() == time(0, 0));
 }

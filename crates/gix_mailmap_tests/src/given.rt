@@ -1,11 +1,10 @@
-//! Entries as the tables of tests have them, and what tests make of them.
-use gix_mailmap::actor::SignatureRef;
-use gix_mailmap::{Entry, Snapshot};
+//! Entries as tables have them.
+use mailmap_entries::Entry;
+use mailmap_snapshot::Snapshot;
 use std::alloc::{AllocError, Global};
-use std::hash::{DefaultHasher, Hash, Hasher};
 
 /// An entry by its fields: the new ones, and then the old ones.
-#[derive(Clone, Copy)]
+#[derive(Drop)]
 pub enum Given {
     /// The default entry.
     Nothing,
@@ -51,14 +50,4 @@ pub fn entries_of(alloc: Global, given: &[Given]) -> Result<Vec<Entry<'static>>,
 pub fn snapshot_of(alloc: Global, given: &[Given]) -> Result<Snapshot, AllocError> {
     let entries = entries_of(alloc, given)?;
     Snapshot::new(alloc, entries.iter().copied())
-}
-
-pub fn signature<'a>(name: &'a [u8], email: &'a [u8], time: &'a str) -> SignatureRef<'a> {
-    SignatureRef { name, email, time }
-}
-
-pub fn hash_of<T: Hash>(value: &T) -> u64 {
-    let mut hasher = DefaultHasher::new();
-    value.hash(&mut hasher);
-    hasher.finish()
 }

@@ -1,153 +1,126 @@
 //! Buffers and entries that no user writes.
-use crate::given::Given::{BothOfName, Name};
-use crate::lines::Fault::{MissingClosingBracket, NoEmail, UnclosedSecond};
+use crate::given::Given;
+use crate::given::Given::{BothOfName, EmailOfName, Name};
 use crate::lines::{Item, Parsed, are_parsed};
-use crate::strict_lines::are_parsed_strictly;
-use gix_mailmap::lines::Error;
-use gix_mailmap::{Entry, Snapshot, parse, parse_strict};
+use crate::listing::{is_listed, merged_in_turn};
+use crate::rows::{Row, assert_rows};
+use mailmap_grammar::lines::Error::{MissingClosingBracket, NoEmail, UnclosedSecond};
+use mailmap_entries::Entry;
+use mailmap_grammar::parse_ignore_errors;
+use mailmap_snapshot::Snapshot;
 use std::alloc::{AllocError, Global};
+use std::slice;
 
-/// The fault of a line of one byte, if it is no white space and no comment.
-fn fault_of_byte(line: &[u8]) -> Option<Error<'_>> {
-    match line {
-        [9..=13 | b' ' | b'#'] => None,
-        [b'<'] => Some(Error::MissingClosingBracket {
-            line: 1,
-            input: line,
-        }),
-        _ => Some(Error::NoEmail {
-            line: 1,
-            input: line,
-        }),
+/// Whether a line of one byte has a fault, if it is no white space and no comment.
+fn is_parsed_as_byte(byte: u8) -> bool {
+    let input = [byte];
+    match byte {
+        9..=13 | b' ' | b'#' => are_parsed(&input, &[], &[]),
+        b'<' => {
+            let fault = [Err(MissingClosingBracket { line: 1, input: &input })];
+            are_parsed(&input, &fault, &fault)
+        }
+        _ => {
+            let fault = [Err(NoEmail { line: 1, input: &input })];
+            are_parsed(&input, &fault, &fault)
+        }
     }
-}
-
-fn is_parsed_as_byte(alloc: Global, line: &[u8]) -> Result<bool, AllocError> {
-    let parsed: Vec<Parsed<'_>> = parse(line).collect(alloc)?;
-    let strict: Vec<Parsed<'_>> = parse_strict(line).collect(alloc)?;
-    let mut want = Vec::new(alloc);
-    if let Some(fault) = fault_of_byte(line) {
-        want.push(Err(fault))?;
-    }
-    Ok(parsed == want && strict == want)
 }
 
 #[test]
-fn a_line_may_be_one_byte(rt: HostRuntime) -> Result<(), AllocError> {
+fn a_line_may_be_one_byte_or_many_brackets(rt: HostRuntime) {
     for byte in 0..=255_u8 {
-        assert!(rt; is_parsed_as_byte(rt.alloc(), &[byte])?, "byte {byte}");
+        assert!(rt; is_parsed_as_byte(byte), "byte {byte}");
     }
-    Ok(())
-}
-
-/// Each row has the items of `parse`, and then those of strict parsing.
-#[test]
-fn a_line_may_end_anywhere(rt: HostRuntime) -> Result<(), AllocError> {
-    const JANE: Item = Ok(Name(b"Jane", b"a@x"));
-    static FRONTS: [(&[u8], Option<Item>, Option<Item>); 21] = [
-        (b"", None, None),
-        (
-            b"J",
-            Some(Err(NoEmail(1, b"J"))),
-            Some(Err(NoEmail(1, b"J"))),
-        ),
-        (
-            b"Ja",
-            Some(Err(NoEmail(1, b"Ja"))),
-            Some(Err(NoEmail(1, b"Ja"))),
-        ),
-        (
-            b"Jan",
-            Some(Err(NoEmail(1, b"Jan"))),
-            Some(Err(NoEmail(1, b"Jan"))),
-        ),
-        (
-            b"Jane",
-            Some(Err(NoEmail(1, b"Jane"))),
-            Some(Err(NoEmail(1, b"Jane"))),
-        ),
-        (
-            b"Jane ",
-            Some(Err(NoEmail(1, b"Jane"))),
-            Some(Err(NoEmail(1, b"Jane"))),
-        ),
-        (
-            b"Jane <",
-            Some(Err(MissingClosingBracket(1, b"Jane <"))),
-            Some(Err(MissingClosingBracket(1, b"Jane <"))),
-        ),
-        (
-            b"Jane <a",
-            Some(Err(MissingClosingBracket(1, b"Jane <a"))),
-            Some(Err(MissingClosingBracket(1, b"Jane <a"))),
-        ),
-        (
-            b"Jane <a@",
-            Some(Err(MissingClosingBracket(1, b"Jane <a@"))),
-            Some(Err(MissingClosingBracket(1, b"Jane <a@"))),
-        ),
-        (
-            b"Jane <a@x",
-            Some(Err(MissingClosingBracket(1, b"Jane <a@x"))),
-            Some(Err(MissingClosingBracket(1, b"Jane <a@x"))),
-        ),
-        (b"Jane <a@x>", Some(JANE), Some(JANE)),
-        (b"Jane <a@x> ", Some(JANE), Some(JANE)),
-        (b"Jane <a@x> B", Some(JANE), Some(JANE)),
-        (b"Jane <a@x> Bo", Some(JANE), Some(JANE)),
-        (b"Jane <a@x> Bob", Some(JANE), Some(JANE)),
-        (b"Jane <a@x> Bob ", Some(JANE), Some(JANE)),
-        (
-            b"Jane <a@x> Bob <",
-            Some(JANE),
-            Some(Err(UnclosedSecond(1, b" Bob <"))),
-        ),
-        (
-            b"Jane <a@x> Bob <b",
-            Some(JANE),
-            Some(Err(UnclosedSecond(1, b" Bob <b"))),
-        ),
-        (
-            b"Jane <a@x> Bob <b@",
-            Some(JANE),
-            Some(Err(UnclosedSecond(1, b" Bob <b@"))),
-        ),
-        (
-            b"Jane <a@x> Bob <b@x",
-            Some(JANE),
-            Some(Err(UnclosedSecond(1, b" Bob <b@x"))),
-        ),
-        (
-            b"Jane <a@x> Bob <b@x>",
-            Some(Ok(BothOfName(b"Jane", b"a@x", b"Bob", b"b@x"))),
-            Some(Ok(BothOfName(b"Jane", b"a@x", b"Bob", b"b@x"))),
-        ),
-    ];
-    for (front, item, strict_item) in &FRONTS {
-        let len = front.len();
-        assert!(rt;
-            are_parsed(rt.alloc(), front, item.as_slice())?,
-            "{len} bytes"
-        );
-        assert!(rt;
-            are_parsed_strictly(rt.alloc(), front, strict_item.as_slice())?,
-            "{len} bytes"
-        );
-    }
-    Ok(())
-}
-
-#[test]
-fn a_line_may_have_many_brackets(rt: HostRuntime) -> Result<(), AllocError> {
     static BRACKETS: [u8; 100_000] = [b'<'; 100_000];
-    let fault = [Err(MissingClosingBracket(1, &BRACKETS))];
-    assert!(rt; are_parsed(rt.alloc(), &BRACKETS, &fault)?);
-    assert!(rt; are_parsed_strictly(rt.alloc(), &BRACKETS, &fault)?);
-    Ok(())
+    let fault = [Err(MissingClosingBracket { line: 1, input: &BRACKETS })];
+    assert!(rt; are_parsed(&BRACKETS, &fault, &fault));
+}
+
+#[test]
+fn a_line_may_end_anywhere(rt: HostRuntime) {
+    const JANE: Item<'static> = Ok(Name(b"Jane", b"a@x"));
+    static FRONTS: [Parsed; 21] = [
+        Parsed(b"", &[], None),
+        Parsed(b"J", &[Err(NoEmail { line: 1, input: b"J" })], None),
+        Parsed(b"Ja", &[Err(NoEmail { line: 1, input: b"Ja" })], None),
+        Parsed(b"Jan", &[Err(NoEmail { line: 1, input: b"Jan" })], None),
+        Parsed(b"Jane", &[Err(NoEmail { line: 1, input: b"Jane" })], None),
+        Parsed(b"Jane ", &[Err(NoEmail { line: 1, input: b"Jane" })], None),
+        Parsed(b"Jane <", &[Err(MissingClosingBracket { line: 1, input: b"Jane <" })], None),
+        Parsed(b"Jane <a", &[Err(MissingClosingBracket { line: 1, input: b"Jane <a" })], None),
+        Parsed(b"Jane <a@", &[Err(MissingClosingBracket { line: 1, input: b"Jane <a@" })], None),
+        Parsed(b"Jane <a@x", &[Err(MissingClosingBracket { line: 1, input: b"Jane <a@x" })], None),
+        Parsed(b"Jane <a@x>", &[JANE], None),
+        Parsed(b"Jane <a@x> ", &[JANE], None),
+        Parsed(b"Jane <a@x> B", &[JANE], None),
+        Parsed(b"Jane <a@x> Bo", &[JANE], None),
+        Parsed(b"Jane <a@x> Bob", &[JANE], None),
+        Parsed(b"Jane <a@x> Bob ", &[JANE], None),
+        Parsed(b"Jane <a@x> Bob <", &[JANE], Some(&[Err(UnclosedSecond { line: 1, input: b" Bob <" })])),
+        Parsed(b"Jane <a@x> Bob <b", &[JANE], Some(&[Err(UnclosedSecond { line: 1, input: b" Bob <b" })])),
+        Parsed(b"Jane <a@x> Bob <b@", &[JANE], Some(&[Err(UnclosedSecond { line: 1, input: b" Bob <b@" })])),
+        Parsed(b"Jane <a@x> Bob <b@x", &[JANE], Some(&[Err(UnclosedSecond { line: 1, input: b" Bob <b@x" })])),
+        Parsed(b"Jane <a@x> Bob <b@x>", &[Ok(BothOfName(b"Jane", b"a@x", b"Bob", b"b@x"))], None),
+    ];
+    assert_rows(&rt, &FRONTS);
+}
+
+/// What a line has before a number, between that and the spelling of the text with that number, and at its end; whether
+/// the numbers ascend; and the one entry of all 4,096 lines.
+struct Spelled([&'static str; 3], bool, Given);
+
+impl Row for Spelled {
+    fn is_right(&self, alloc: Global) -> bool {
+        match spelled_lines(alloc, &self.0, self.1) {
+            Ok(lines) => is_read_as_one(alloc, &lines, &self.2),
+            Err(_) => false,
+        }
+    }
+}
+
+fn is_read_as_one(alloc: Global, lines: &[u8], one: &Given) -> bool {
+    let entries: Result<Vec<Entry<'_>>, AllocError> = parse_ignore_errors(lines).collect(alloc);
+    match entries {
+        Ok(entries) => entries.len() == 4096 && is_merged_as_one(alloc, &entries, one),
+        Err(_) => false,
+    }
+}
+
+fn is_merged_as_one(alloc: Global, entries: &[Entry<'_>], one: &Given) -> bool {
+    let listed = slice::from_ref(one);
+    is_listed(alloc, Snapshot::new(alloc, entries.iter().copied()), listed)
+        && is_listed(alloc, merged_in_turn(alloc, entries), listed)
+}
+
+fn spelled_lines(
+    alloc: Global,
+    parts: &[&str; 3],
+    ascending: bool,
+) -> Result<Vec<u8>, AllocError> {
+    let mut lines = Vec::new(alloc);
+    for i in 0..4096_u32 {
+        let number = if ascending { i } else { 4095 - i };
+        push_line(alloc, &mut lines, parts, number)?;
+    }
+    Ok(lines)
+}
+
+fn push_line(
+    alloc: Global,
+    lines: &mut Vec<u8>,
+    parts: &[&str; 3],
+    number: u32,
+) -> Result<(), AllocError> {
+    let [before, between, end] = parts;
+    let start = format!(in alloc; "{before}{number}{between}")?;
+    lines.extend_from_slice(start.as_bytes())?;
+    lines.extend_from_slice(&spelling(number))?;
+    lines.extend_from_slice(end.as_bytes())
 }
 
 /// `abcdefghijkl`, with capital letters where the binary digits of a number are 1, the last of them first.
-fn capitals(number: u32) -> [u8; 12] {
+fn spelling(number: u32) -> [u8; 12] {
     let mut text = *b"abcdefghijkl";
     let mut digits = number;
     for letter in &mut text {
@@ -159,72 +132,13 @@ fn capitals(number: u32) -> [u8; 12] {
     text
 }
 
-/// All spellings of that text, each with its number after a word.
-fn spellings(alloc: Global, word: &str) -> Result<Vec<([u8; 12], String)>, AllocError> {
-    let mut all = Vec::new(alloc);
-    for number in 0..4096 {
-        all.push((capitals(number), format!(in alloc; "{word}{number}")?))?;
-    }
-    Ok(all)
-}
-
-/// A new name for each spelling of an email.
-fn names_of<'a>(
-    alloc: Global,
-    spellings: &'a [([u8; 12], String)],
-) -> Result<Vec<Entry<'a>>, AllocError> {
-    let mut entries = Vec::new(alloc);
-    for (email, name) in spellings {
-        entries.push(Entry::change_name_by_email(name.as_bytes(), email))?;
-    }
-    Ok(entries)
-}
-
-/// A new email for each spelling of a name.
-fn emails_of<'a>(
-    alloc: Global,
-    spellings: &'a [([u8; 12], String)],
-) -> Result<Vec<Entry<'a>>, AllocError> {
-    let mut entries = Vec::new(alloc);
-    for (name, email) in spellings {
-        entries.push(Entry::change_email_by_name_and_email(email.as_bytes(), name, b"K@x"))?;
-    }
-    Ok(entries)
-}
-
-/// Whether a snapshot of entries lists just one entry.
-fn is_one(alloc: Global, entries: &[Entry<'_>], one: Entry<'_>) -> Result<bool, AllocError> {
-    let snapshot = Snapshot::new(alloc, entries.iter().copied())?;
-    Ok(snapshot.iter().eq([one].into_iter()))
-}
-
-/// Whether a snapshot of entries is that of their merges, one by one.
-fn is_same_in_turn(alloc: Global, entries: &[Entry<'_>]) -> Result<bool, AllocError> {
-    let mut in_turn = Snapshot::empty(alloc);
-    for entry in entries {
-        in_turn.merge([*entry].into_iter())?;
-    }
-    Ok(in_turn == Snapshot::new(alloc, entries.iter().copied())?)
-}
-
+/// The first spelling is kept, with the last number.
 #[test]
-fn all_spellings_of_an_email_are_one(rt: HostRuntime) -> Result<(), AllocError> {
-    let spellings = spellings(rt.alloc(), "")?;
-    let mut entries = names_of(rt.alloc(), &spellings)?;
-    let last = Entry::change_name_by_email(b"4095", b"abcdefghijkl");
-    assert!(rt; is_one(rt.alloc(), &entries, last)?);
-    assert!(rt; is_same_in_turn(rt.alloc(), &entries)?);
-    entries.reverse();
-    let first = Entry::change_name_by_email(b"0", b"ABCDEFGHIJKL");
-    assert!(rt; is_one(rt.alloc(), &entries, first)?);
-    Ok(())
-}
-
-#[test]
-fn all_spellings_of_a_name_are_one(rt: HostRuntime) -> Result<(), AllocError> {
-    let spellings = spellings(rt.alloc(), "e")?;
-    let entries = emails_of(rt.alloc(), &spellings)?;
-    let last = Entry::change_email_by_name_and_email(b"e4095", b"abcdefghijkl", b"K@x");
-    assert!(rt; is_one(rt.alloc(), &entries, last)?);
-    Ok(())
+fn all_spellings_of_a_text_are_one(rt: HostRuntime) {
+    static TABLE: [Spelled; 3] = [
+        Spelled(["", " <", ">\n"], true, Name(b"4095", b"abcdefghijkl")),
+        Spelled(["", " <", ">\n"], false, Name(b"0", b"ABCDEFGHIJKL")),
+        Spelled(["<e", "> ", " <K@x>\n"], true, EmailOfName(b"e4095", b"abcdefghijkl", b"K@x")),
+    ];
+    assert_rows(&rt, &TABLE);
 }

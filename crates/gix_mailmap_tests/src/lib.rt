@@ -1,5 +1,5 @@
 //! Examples of what the library answers, from the specification of mailmaps and from the original, and tests of what no
-//! contract says: that a failing reader or writer ends a program as it should, and how caches and memory are used.
+//! contract says: how caches and memory are used. Each is a row of a table.
 #![tactic(auto)]
 
 #[cfg(test)]
@@ -21,25 +21,16 @@ mod listing;
 #[cfg(test)]
 mod lookups;
 #[cfg(test)]
-mod memory;
-#[cfg(test)]
-mod merging;
-#[cfg(test)]
 mod names;
 #[cfg(test)]
 mod repeats;
 #[cfg(test)]
+mod rows;
+#[cfg(test)]
 mod searches;
-pub mod shelf;
 #[cfg(test)]
 mod signatures;
 #[cfg(test)]
 mod sources;
-#[cfg(test)]
-mod streams;
-#[cfg(test)]
-mod strict_lines;
-#[cfg(test)]
-mod words;
 #[cfg(test)]
 mod writing;

@@ -1,115 +1,131 @@
-use crate::given::Given::{Both, BothOfName, Email, Name};
-use crate::given::{Given, signature};
-use crate::lines::Fault::{
+use crate::given::Given;
+use crate::given::Given::{Both, BothOfName, Email, EmailOfName, Name};
+use crate::listing::are_equal;
+use crate::rows::{Row, Text, assert_rows};
+use mailmap_grammar::lines::Error;
+use mailmap_grammar::lines::Error::{
     EmptyEmail, MissingClosingBracket, NoEmail, NothingToMap, UnclosedSecond,
 };
-use gix_mailmap::lines::Error;
-use gix_mailmap::{Entry, Snapshot, parse, parse_ignore_errors};
-use std::alloc::{AllocError, Global};
-use std::test::Fail;
-
-/// What a line is parsed as.
-pub type Parsed<'a> = Result<Entry<'a>, Error<'a>>;
-
-/// A fault as a table has it: the number of the line, and the input.
-#[derive(Clone, Copy)]
-pub enum Fault {
-    NoEmail(usize, &'static [u8]),
-    MissingClosingBracket(usize, &'static [u8]),
-    EmptyEmail(usize, &'static [u8]),
-    NothingToMap(usize, &'static [u8]),
-    UnclosedSecond(usize, &'static [u8]),
-}
-
-impl Fault {
-    pub fn error(self) -> Error<'static> {
-        match self {
-            Fault::NoEmail(line, input) => Error::NoEmail { line, input },
-            Fault::MissingClosingBracket(line, input) => Error::MissingClosingBracket {
-                line,
-                input,
-            },
-            Fault::EmptyEmail(line, input) => Error::EmptyEmail { line, input },
-            Fault::NothingToMap(line, input) => Error::NothingToMap { line, input },
-            Fault::UnclosedSecond(line, input) => Error::UnclosedSecond { line, input },
-        }
-    }
-}
+use mailmap_entries::Entry;
+use mailmap_grammar::{parse, parse_ignore_errors, parse_strict};
+use mailmap_snapshot::Snapshot;
+use std::alloc::Global;
 
 /// What a line is parsed as, as a table has it.
-pub type Item = Result<Given, Fault>;
+pub type Item<'a> = Result<Given, Error<'a>>;
 
-pub fn parsed_of(alloc: Global, items: &[Item]) -> Result<Vec<Parsed<'static>>, AllocError> {
-    let mut parsed = Vec::new(alloc);
-    for item in items {
-        parsed.push(match *item {
-            Ok(given) => Ok(given.entry()),
-            Err(fault) => Err(fault.error()),
-        })?;
+/// A mailmap, the items of `parse`, and those of strict parsing if they are others.
+pub struct Parsed(
+    pub &'static [u8],
+    pub &'static [Item<'static>],
+    pub Option<&'static [Item<'static>]>,
+);
+
+impl Row for Parsed {
+    fn is_right(&self, _alloc: Global) -> bool {
+        let Parsed(buffer, items, strict) = self;
+        are_parsed(buffer, items, strict.unwrap_or(items))
     }
-    Ok(parsed)
 }
 
-/// Whether these are the items of `parse`.
-pub fn are_parsed(alloc: Global, buffer: &[u8], items: &[Item]) -> Result<bool, AllocError> {
-    let parsed: Vec<Parsed<'_>> = parse(buffer).collect(alloc)?;
-    Ok(parsed == parsed_of(alloc, items)?)
-}
-
-/// Whether `parse_ignore_errors` has the entries among these items.
-fn are_good(alloc: Global, buffer: &[u8], items: &[Item]) -> Result<bool, AllocError> {
-    let good: Vec<Entry<'_>> = parse_ignore_errors(buffer).collect(alloc)?;
-    let mut want = Vec::new(alloc);
-    for item in items {
+/// Whether a buffer has these items, and these others if it is parsed strictly. The entries among the former are those
+/// of `parse_ignore_errors`.
+pub fn are_parsed(buffer: &[u8], items: &[Item<'_>], strict: &[Item<'_>]) -> bool {
+    let mut lines = parse(buffer);
+    let mut strict_lines = parse_strict(buffer);
+    let mut good_lines = parse_ignore_errors(buffer);
+    if items.len() != strict.len() {
+        return false;
+    }
+    for (item, strict_item) in items.iter().zip(strict) {
+        if !is_item(lines.next(), item) || !is_item(strict_lines.next(), strict_item) {
+            return false;
+        }
         if let Ok(given) = item {
-            want.push(given.entry())?;
+            if good_lines.next() != Some(given.entry()) {
+                return false;
+            }
         }
     }
-    Ok(good == want)
+    lines.next().is_none() && strict_lines.next().is_none() && good_lines.next().is_none()
+}
+
+fn is_item(found: Option<Result<Entry<'_>, Error<'_>>>, want: &Item<'_>) -> bool {
+    match found {
+        Some(Ok(entry)) => matches!(want, Ok(given) if entry == given.entry()),
+        Some(Err(fault)) => matches!(want, Err(error) if fault == *error),
+        None => false,
+    }
 }
 
 /// Comments and blank lines are counted.
 #[test]
-fn a_line_has_an_entry_a_fault_or_nothing(rt: HostRuntime) -> Result<(), AllocError> {
-    static TABLE: [(&[u8], &[Item]); 19] = [
-        (b"", &[]),
-        (b"# c\n\n  Jane <j@x>", &[Ok(Name(b"Jane", b"j@x"))]),
-        (b" # c", &[Err(NoEmail(1, b"# c"))]),
-        (b"# c\n\nplain", &[Err(NoEmail(3, b"plain"))]),
-        (
+fn a_line_has_an_entry_a_fault_or_nothing(rt: HostRuntime) {
+    static LINES: [Parsed; 5] = [
+        Parsed(b"", &[], None),
+        Parsed(b"# c\n\n  Jane <j@x>", &[Ok(Name(b"Jane", b"j@x"))], None),
+        Parsed(b" # c", &[Err(NoEmail { line: 1, input: b"# c" })], None),
+        Parsed(b"# c\n\nplain", &[Err(NoEmail { line: 3, input: b"plain" })], None),
+        Parsed(
             b"<a@x>\nJane <a@x\nJane < > <b@x>\nplain",
             &[
-                Err(NothingToMap(1, b"<a@x>")),
-                Err(MissingClosingBracket(2, b"Jane <a@x")),
-                Err(EmptyEmail(3, b"Jane < > <b@x>")),
-                Err(NoEmail(4, b"plain")),
+                Err(NothingToMap { line: 1, input: b"<a@x>" }),
+                Err(MissingClosingBracket { line: 2, input: b"Jane <a@x" }),
+                Err(EmptyEmail { line: 3, input: b"Jane < > <b@x>" }),
+                Err(NoEmail { line: 4, input: b"plain" }),
             ],
+            None,
         ),
-        (b"Jane <a@x> <b", &[Ok(Name(b"Jane", b"a@x"))]),
-        (b"<a@x> <b", &[Err(NothingToMap(1, b"<a@x> <b"))]),
-        (b"a>b <a@x> <b", &[Ok(Name(b"a>b", b"a@x"))]),
-        (b"Jane < > <b", &[Err(EmptyEmail(1, b"Jane < > <b"))]),
-        (b"Jane <a@x> tail", &[Ok(Name(b"Jane", b"a@x"))]),
-        (b"Jane <a@x> <>", &[Ok(Both(b"Jane", b"a@x", b""))]),
-        (b"<n@x> <a@x>", &[Ok(Email(b"n@x", b"a@x"))]),
-        (
+    ];
+    assert_rows(&rt, &LINES);
+    static SECOND: [Parsed; 7] = [
+        Parsed(
+            b"Jane <a@x> <b",
+            &[Ok(Name(b"Jane", b"a@x"))],
+            Some(&[Err(UnclosedSecond { line: 1, input: b" <b" })]),
+        ),
+        Parsed(
+            b"<a@x> <b",
+            &[Err(NothingToMap { line: 1, input: b"<a@x> <b" })],
+            Some(&[Err(UnclosedSecond { line: 1, input: b" <b" })]),
+        ),
+        Parsed(
+            b"a>b <a@x> <b",
+            &[Ok(Name(b"a>b", b"a@x"))],
+            Some(&[Err(UnclosedSecond { line: 1, input: b" <b" })]),
+        ),
+        Parsed(b"Jane < > <b", &[Err(EmptyEmail { line: 1, input: b"Jane < > <b" })], None),
+        Parsed(b"Jane <a@x> tail", &[Ok(Name(b"Jane", b"a@x"))], None),
+        Parsed(b"Jane <a@x> <>", &[Ok(Both(b"Jane", b"a@x", b""))], None),
+        Parsed(b"<n@x> <a@x>", &[Ok(Email(b"n@x", b"a@x"))], None),
+    ];
+    assert_rows(&rt, &SECOND);
+    static BYTES: [Parsed; 5] = [
+        Parsed(
             b"a>b <c<d> e>f <g>h<i>",
             &[Ok(BothOfName(b"a>b", b"c<d", b"e>f", b"g"))],
+            None,
         ),
-        (
+        Parsed(
             b"\xe3\x80\x80Jane\xc2\xa0 <a@x\xe2\x80\x8b>",
             &[Ok(Name(b"Jane", b"a@x\xe2\x80\x8b"))],
+            None,
         ),
-        (b"\xffJ <a@x>", &[Ok(Name(b"\xffJ", b"a@x"))]),
-        (
+        Parsed(b"\xffJ <a@x>", &[Ok(Name(b"\xffJ", b"a@x"))], None),
+        Parsed(
             b"J\xa0 <a@x\xe2\xc2\xa0>",
             &[Ok(Name(b"J\xa0", b"a@x\xe2"))],
+            None,
         ),
-        (
+        Parsed(
             b"Jane <a@x>\r\n\r\nBob <b@x>\r",
             &[Ok(Name(b"Jane", b"a@x")), Ok(Name(b"Bob", b"b@x"))],
+            None,
         ),
-        (
+    ];
+    assert_rows(&rt, &BYTES);
+    static SEVERAL: [Parsed; 3] = [
+        Parsed(
             b"\nJoe R. Developer <joe@example.com> <bugs@example.com>\n\
             Jane Doe <jane@example.com> Jane <bugs@example.com>\n",
             &[
@@ -121,101 +137,121 @@ fn a_line_has_an_entry_a_fault_or_nothing(rt: HostRuntime) -> Result<(), AllocEr
                     b"bugs@example.com",
                 )),
             ],
+            None,
         ),
-        (
+        Parsed(
             b"<a@x>\nJane <j@x>\nplain\nBob <b@x>",
             &[
-                Err(NothingToMap(1, b"<a@x>")),
+                Err(NothingToMap { line: 1, input: b"<a@x>" }),
                 Ok(Name(b"Jane", b"j@x")),
-                Err(NoEmail(3, b"plain")),
+                Err(NoEmail { line: 3, input: b"plain" }),
                 Ok(Name(b"Bob", b"b@x")),
             ],
+            None,
+        ),
+        Parsed(
+            b" Jane <j@x> <>\n # c <a@x>\n <n@y> Bob <a@x>\n",
+            &[
+                Ok(Both(b"Jane", b"j@x", b"")),
+                Ok(Name(b"# c", b"a@x")),
+                Ok(EmailOfName(b"n@y", b"Bob", b"a@x")),
+            ],
+            None,
         ),
     ];
-    for (i, (buffer, items)) in TABLE.iter().enumerate() {
-        assert!(rt; are_parsed(rt.alloc(), buffer, items)?, "row {i}");
-        assert!(rt; are_good(rt.alloc(), buffer, items)?, "row {i}");
-    }
-    Ok(())
-}
-
-fn has_text(alloc: Global, fault: Fault, text: &str) -> Result<bool, AllocError> {
-    Ok(fault.error().to_string(alloc)?.as_str() == text)
-}
-
-#[test]
-fn a_fault_has_a_text(rt: HostRuntime) -> Result<(), AllocError> {
-    static TABLE: [(Fault, &str); 5] = [
-        (NoEmail(3, b"plain"), "Line 3 does not contain an email"),
-        (
-            MissingClosingBracket(2, b"Jane <a@x"),
-            "2: Missing closing bracket '>' in email",
-        ),
-        (
-            EmptyEmail(3, b"Jane < > <b@x>"),
-            "3: Email must not be empty",
-        ),
-        (
-            NothingToMap(1, b"<a@x>"),
-            "1: Emails without a name or email to map to are invalid",
-        ),
-        (
-            UnclosedSecond(1, b" <b"),
-            "1: Missing closing bracket '>' in second email",
+    assert_rows(&rt, &SEVERAL);
+    static STRICT: [Parsed; 1] = [
+        Parsed(
+            b"# c\n<a@x>\nJane <a@x> <b\nplain\n\nJane <a@x\nBob <b@x>",
+            &[
+                Err(NothingToMap { line: 2, input: b"<a@x>" }),
+                Ok(Name(b"Jane", b"a@x")),
+                Err(NoEmail { line: 4, input: b"plain" }),
+                Err(MissingClosingBracket { line: 6, input: b"Jane <a@x" }),
+                Ok(Name(b"Bob", b"b@x")),
+            ],
+            Some(&[
+                Err(NothingToMap { line: 2, input: b"<a@x>" }),
+                Err(UnclosedSecond { line: 3, input: b" <b" }),
+                Err(NoEmail { line: 4, input: b"plain" }),
+                Err(MissingClosingBracket { line: 6, input: b"Jane <a@x" }),
+                Ok(Name(b"Bob", b"b@x")),
+            ]),
         ),
     ];
-    for (i, (fault, text)) in TABLE.iter().enumerate() {
-        assert!(rt; has_text(rt.alloc(), *fault, text)?, "row {i}");
-    }
-    Ok(())
+    assert_rows(&rt, &STRICT);
 }
 
+/// The first entry of a buffer. It outlives the iterator.
 fn first_entry(buffer: &[u8]) -> Option<Entry<'_>> {
     parse_ignore_errors(buffer).next()
 }
 
-fn first_fault(buffer: &[u8]) -> Option<Error<'_>> {
-    parse(buffer).filter_map(Result::err).next()
+/// Whether the first item of a buffer is a fault with this line and input. It outlives the iterator, too.
+fn is_fault(item: Option<Result<Entry<'_>, Error<'_>>>, line: usize, input: &[u8]) -> bool {
+    matches!(item, Some(Err(fault)) if fault.line() == line && fault.input() == input)
 }
 
 #[test]
-fn an_entry_and_a_fault_outlive_the_iterator(rt: HostRuntime) {
-    let buffer = b"Jane <a@x>\nplain";
-    let entry = first_entry(buffer);
-    assert!(rt; entry == Some(Entry::change_name_by_email(b"Jane", b"a@x")));
-    let fault = first_fault(buffer);
-    assert!(rt;
-        fault.is_some_and(|fault| fault.line() == 2 && fault.input() == b"plain".as_slice())
-    );
+fn a_fault_has_a_line_an_input_and_a_text(rt: HostRuntime) {
+    static TABLE: [Text<Error<'static>>; 5] = [
+        Text(
+            NoEmail { line: 3, input: b"plain" },
+            "Line 3 does not contain an email",
+        ),
+        Text(
+            MissingClosingBracket { line: 2, input: b"Jane <a@x" },
+            "2: Missing closing bracket '>' in email",
+        ),
+        Text(
+            EmptyEmail { line: 3, input: b"Jane < > <b@x>" },
+            "3: Email must not be empty",
+        ),
+        Text(
+            NothingToMap { line: 1, input: b"<a@x>" },
+            "1: Emails without a name or email to map to are invalid",
+        ),
+        Text(
+            UnclosedSecond { line: 1, input: b" <b" },
+            "1: Missing closing bracket '>' in second email",
+        ),
+    ];
+    assert_rows(&rt, &TABLE);
+    assert!(rt; first_entry(b"Jane <a@x>") == Some(Entry::change_name_by_email(b"Jane", b"a@x")));
+    assert!(rt; is_fault(parse(b"\nplain").next(), 2, b"plain"));
 }
 
-/// The entries of a mailmap, or its first fault.
-fn collected(alloc: Global, buffer: &[u8]) -> Result<Vec<Entry<'_>>, Fail> {
-    parse(buffer)
-        .map(|item| item.map_err(Fail::from))
-        .try_collect(alloc)
+/// The entries of a mailmap, if no line has a fault.
+fn collected(alloc: Global, buffer: &[u8]) -> Option<Vec<Entry<'_>>> {
+    let mut entries = Vec::new(alloc);
+    for item in parse(buffer) {
+        match item {
+            Ok(entry) if entries.push(entry).is_ok() => {}
+            _ => return None,
+        }
+    }
+    Some(entries)
 }
 
-fn is_resolved(alloc: Global, snapshot: &Snapshot) -> Result<bool, AllocError> {
-    let asked = signature(b"Jane", b"bugs@example.com", "1711398853 +0800");
-    let resolved = snapshot.resolve(alloc, asked)?;
-    Ok(
-        resolved.name.as_slice() == b"Jane Doe".as_slice()
-            && resolved.email.as_slice() == b"jane@example.com".as_slice(),
-    )
+fn is_collected(alloc: Global, buffer: &[u8], len: usize) -> bool {
+    match collected(alloc, buffer) {
+        Some(entries) => {
+            entries.len() == len
+                && are_equal(
+                    Snapshot::new(alloc, entries.into_iter()),
+                    Snapshot::from_bytes(alloc, buffer),
+                )
+        }
+        None => false,
+    }
 }
 
-/// The example in the documentation of the original.
+/// The example in the documentation of the original. What its snapshot answers is in `signatures`.
 #[test]
-fn a_mailmap_without_faults_is_collected(rt: HostRuntime) -> Result<(), Fail> {
+fn a_mailmap_without_faults_is_collected(rt: HostRuntime) {
     let input = b"
 Joe R. Developer <joe@example.com> <bugs@example.com>
 Jane Doe <jane@example.com> Jane <bugs@example.com>
 ";
-    let parsed = collected(rt.alloc(), input)?;
-    assert!(rt; parsed.len() == 2);
-    let snapshot = Snapshot::new(rt.alloc(), parsed.into_iter())?;
-    assert!(rt; snapshot == Snapshot::from_bytes(rt.alloc(), input)?);
-    assert!(rt; is_resolved(rt.alloc(), &snapshot)?);
-    Ok(())
+    assert!(rt; is_collected(rt.alloc(), input, 2));
 }

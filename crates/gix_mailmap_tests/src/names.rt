@@ -1,9 +1,76 @@
+use crate::rows::{Row, assert_rows, is_text};
 use mailmap_names::logins::login;
 use mailmap_names::names::{Name, login_keys};
+use mailmap_names::words::words_of;
 use std::alloc::{AllocError, Global};
-use std::test::Fail;
 
-// The texts with `|` between them.
+/// What the model says. Lists of marks and keys have `|` between them, and words a space.
+enum Said {
+    /// The words of a name.
+    Words(&'static str, &'static str),
+    /// A name that has none.
+    NoWords(&'static [u8]),
+    /// The marks of a name.
+    Marks(&'static str, &'static str),
+    /// What the first word of a name makes.
+    FirstWords(&'static str, &'static str),
+    /// Whether two names are related, whichever comes first.
+    Related(&'static str, &'static str, bool),
+    /// The login of an email, and its keys.
+    Login(&'static str, &'static str, &'static str),
+}
+
+use Said::{FirstWords, Login, Marks, NoWords, Related, Words};
+
+impl Row for Said {
+    fn is_right(&self, alloc: Global) -> bool {
+        match self {
+            Words(name, words) => are_words(alloc, words_of(alloc, name.as_bytes()), words),
+            NoWords(name) => matches!(words_of(alloc, name), Ok(words) if words.is_empty()),
+            Marks(name, marks) => has_marks(alloc, Name::read(alloc, name.as_bytes()), marks),
+            FirstWords(name, words) => {
+                has_first_words(alloc, Name::read(alloc, name.as_bytes()), words)
+            }
+            Related(one, other, related) => {
+                matches!(is_related(alloc, one, other), Ok(found) if found == *related)
+                    && matches!(is_related(alloc, other, one), Ok(found) if found == *related)
+            }
+            Login(email, name, keys) => {
+                login(email.as_bytes()) == name.as_bytes()
+                    && are_joined(alloc, login_keys(alloc, email.as_bytes()), keys)
+            }
+        }
+    }
+}
+
+fn are_words(alloc: Global, words: Result<Vec<String>, AllocError>, want: &str) -> bool {
+    match words {
+        Ok(words) => {
+            matches!(words.as_slice().join(alloc, " "), Ok(text) if text.as_str() == want)
+        }
+        Err(_) => false,
+    }
+}
+
+fn has_marks(alloc: Global, name: Result<Name<'_>, AllocError>, want: &str) -> bool {
+    matches!(name, Ok(name) if are_joined(alloc, name.marks(alloc), want))
+}
+
+fn has_first_words(alloc: Global, name: Result<Name<'_>, AllocError>, want: &str) -> bool {
+    matches!(name, Ok(name) if are_joined(alloc, name.first_words(alloc), want))
+}
+
+fn is_related(alloc: Global, one: &str, other: &str) -> Result<bool, AllocError> {
+    let one = Name::read(alloc, one.as_bytes())?;
+    let other = Name::read(alloc, other.as_bytes())?;
+    let is_related = one.is_related(&other);
+    Ok(is_related)
+}
+
+fn are_joined(alloc: Global, texts: Result<Vec<Vec<u8>>, AllocError>, want: &str) -> bool {
+    matches!(texts, Ok(texts) if is_text(joined(alloc, &texts), want.as_bytes()))
+}
+
 fn joined(alloc: Global, texts: &[Vec<u8>]) -> Result<Vec<u8>, AllocError> {
     let mut joined = Vec::new(alloc);
     for (i, text) in texts.iter().enumerate() {
@@ -15,128 +82,123 @@ fn joined(alloc: Global, texts: &[Vec<u8>]) -> Result<Vec<u8>, AllocError> {
     Ok(joined)
 }
 
-/// The marks are those of the model.
+/// The words from `ØYSTEIN` on compare texts as Unicode has them: letters with marks, in one character or in two, ligatures, wide and small letters, `İ` and `ı`, Hangul in syllables or in letters, digits.
 #[test]
-fn names_have_marks(rt: HostRuntime) -> Result<(), Fail> {
-    static TABLE: [(&str, &str); 18] = [
-        ("Jane Q. Doe", "njane q. doe|wdoe jane|tjaneqdoe"),
-        ("Doe, Jane", "ndoe, jane|wdoe jane|tdoejane"),
-        ("J. Doe", "nj. doe|wdoe j|tjdoe"),
-        ("J. Q. Doe", "nj. q. doe|wdoe j q|tjqdoe"),
-        ("jd", "njd"),
-        ("J. D.", "nj. d."),
-        ("JaneDoe", "njanedoe|wjanedoe|tjanedoe"),
-        ("Jane (work) Doe", "njane (work) doe|wdoe jane|tjanedoe"),
-        ("root", "nroot"),
-        ("Root", "nroot"),
-        ("ad-min", "nad-min"),
-        ("Admins", "nadmins|wadmins|tadmins"),
-        ("Ann", "nann|wann|tann"),
-        ("王小明", "n王小明|w王小明|t王小明"),
-        ("王明", "n王明"),
-        ("Æ Ø", "nÆ Ø|wae o|taeo"),
-        ("", ""),
-        ("...", "n..."),
+fn names_have_words_and_marks(rt: HostRuntime) {
+    static WORDS: [Said; 37] = [
+        Words("Ann Lee", "ann lee"),
+        Words("Lee, Ann", "lee ann"),
+        Words("O'Neil-Roe", "o neil roe"),
+        Words("J. Müller II (work) via a list", "j muller ii"),
+        Words("Ann \"Zoe\" Lee", "ann lee"),
+        Words("Ann \"a\" b \"c", "ann b c"),
+        Words("(a (b) c", "a c"),
+        Words("[[Ann] Lee] Roe", "lee roe"),
+        Words("a [b (c] d) e", "a d e"),
+        Words("(Ann) (Lee)", "ann lee"),
+        Words("Ann Lee (x) VIA list", "ann lee"),
+        Words("Ann viA list via x", "ann"),
+        Words("Ann via", "ann via"),
+        Words("via Ann", "via ann"),
+        Words("Ann\tvia list", "ann via list"),
+        Words(" via list", "via list"),
+        Words("(x) via list", "x via list"),
+        Words("", ""),
+        Words("...", ""),
+        Words("Øystein Þór", "oystein thor"),
+        Words("Đặng Łukasz", "dang lukasz"),
+        Words("Ħal ıŋ ŧæœ ð", "hal in taeoe d"),
+        Words("STRASSE Straße", "strasse strasse"),
+        Words("ﬁn ﬀ", "fin ff"),
+        Words("İbrahim ISIK ış", "ibrahim isik is"),
+        Words("ΣΊΣΥΦΟΣ", "σισυφοσ"),
+        Words("a\u{323}\u{307}b ạ̇b", "ab ab"),
+        Words("Ａｎｎ ｱﾞ", "ann ア"),
+        Words("Ⅳ ½ ²", "iv 1 2 2"),
+        Words("한", "\u{1112}\u{1161}\u{11ab}"),
+        Words("\u{1112}\u{1161}\u{11ab}", "\u{1112}\u{1161}\u{11ab}"),
+        Words("x\u{200d}y\u{ad}z", "x y z"),
+        Words("中文", "中文"),
+        NoWords(b"Ann \xff"),
+        NoWords(b"Ann \xc3"),
+        NoWords(b"\xed\xa0\x80"),
+        NoWords(b"\xc0\xa0"),
     ];
-    for (i, (name, marks)) in TABLE.iter().enumerate() {
-        let found = Name::read(rt.alloc(), name.as_bytes())?.marks(rt.alloc())?;
-        assert_eq!(rt;
-            joined(rt.alloc(), &found)?.as_slice(),
-            marks.as_bytes(),
-            "row {i}"
-        );
-    }
-    Ok(())
+    assert_rows(&rt, &WORDS);
+    static MARKS: [Said; 24] = [
+        Marks("Jane Q. Doe", "njane q. doe|wdoe jane|tjaneqdoe"),
+        Marks("Doe, Jane", "ndoe, jane|wdoe jane|tdoejane"),
+        Marks("J. Doe", "nj. doe|wdoe j|tjdoe"),
+        Marks("J. Q. Doe", "nj. q. doe|wdoe j q|tjqdoe"),
+        Marks("jd", "njd"),
+        Marks("J. D.", "nj. d."),
+        Marks("JaneDoe", "njanedoe|wjanedoe|tjanedoe"),
+        Marks("Jane (work) Doe", "njane (work) doe|wdoe jane|tjanedoe"),
+        Marks("root", "nroot"),
+        Marks("Root", "nroot"),
+        Marks("ad-min", "nad-min"),
+        Marks("Admins", "nadmins|wadmins|tadmins"),
+        Marks("Ann", "nann|wann|tann"),
+        Marks("王小明", "n王小明|w王小明|t王小明"),
+        Marks("王明", "n王明"),
+        Marks("Æ Ø", "nÆ Ø|wae o|taeo"),
+        Marks("", ""),
+        Marks("...", "n..."),
+        FirstWords("Jane Doe", "wjane|tjane"),
+        FirstWords("Jane", ""),
+        FirstWords("a b", "wa|ta"),
+        FirstWords("王 小明", "w王|t王"),
+        FirstWords("...", ""),
+        FirstWords("Jane (work)", ""),
+    ];
+    assert_rows(&rt, &MARKS);
 }
 
-/// Names are related as the model says, whichever comes first.
 #[test]
-fn names_are_related(rt: HostRuntime) -> Result<(), Fail> {
-    static TABLE: [(&str, &str, bool); 17] = [
-        ("Jane Doe", "Doe, JANE", true),
-        ("Jane Doe", "JaneDoe", true),
-        ("J. Doe", "Doe", true),
-        ("Jane Doe", "Jane Roe", true),
-        ("Li Doe", "Li Roe", false),
-        ("Ann Doe", "Ann Roe", true),
-        ("...", "...", true),
-        ("a-b", "A-B", true),
-        ("a-b", "ab", false),
-        ("", "", false),
-        ("root", "Root", true),
-        ("root", "r-oot", false),
-        ("Jane Doe", "", false),
-        ("Zoe Yan Xia Doe Ann", "Bob Eve Ann Roe Kim", true),
-        ("Zoe Yan Xia Doe Ann", "Bob Eve Roe Kim Ian", false),
-        ("Zoe Yan Zoe Xia Zoe", "Kim Zoe", true),
-        ("Ann Lee Joann", "Jo Leeann", false),
+fn names_are_related_and_emails_have_logins(rt: HostRuntime) {
+    static RELATED: [Said; 17] = [
+        Related("Jane Doe", "Doe, JANE", true),
+        Related("Jane Doe", "JaneDoe", true),
+        Related("J. Doe", "Doe", true),
+        Related("Jane Doe", "Jane Roe", true),
+        Related("Li Doe", "Li Roe", false),
+        Related("Ann Doe", "Ann Roe", true),
+        Related("...", "...", true),
+        Related("a-b", "A-B", true),
+        Related("a-b", "ab", false),
+        Related("", "", false),
+        Related("root", "Root", true),
+        Related("root", "r-oot", false),
+        Related("Jane Doe", "", false),
+        Related("Zoe Yan Xia Doe Ann", "Bob Eve Ann Roe Kim", true),
+        Related("Zoe Yan Xia Doe Ann", "Bob Eve Roe Kim Ian", false),
+        Related("Zoe Yan Zoe Xia Zoe", "Kim Zoe", true),
+        Related("Ann Lee Joann", "Jo Leeann", false),
     ];
-    for (i, (one, other, related)) in TABLE.iter().enumerate() {
-        let one = Name::read(rt.alloc(), one.as_bytes())?;
-        let other = Name::read(rt.alloc(), other.as_bytes())?;
-        assert_eq!(rt; one.is_related(&other), *related, "row {i}");
-        assert_eq!(rt; other.is_related(&one), *related, "row {i}");
-    }
-    Ok(())
-}
-
-/// The logins and their keys are those of the model.
-#[test]
-fn emails_have_logins(rt: HostRuntime) -> Result<(), Fail> {
-    static TABLE: [(&str, &str, &str); 18] = [
-        ("jane@example.com", "jane", "wjane|tjane"),
-        ("Jane.Doe@example.com", "Jane.Doe", "wdoe jane|tjanedoe"),
-        ("jane+lists+x@example.com", "jane", "wjane|tjane"),
-        ("+jane@example.com", "+jane", "wjane|tjane"),
-        ("++x@y", "+", ""),
-        ("12345+jane@users.noreply.github.com", "jane", "wjane|tjane"),
-        (
+    assert_rows(&rt, &RELATED);
+    static LOGINS: [Said; 18] = [
+        Login("jane@example.com", "jane", "wjane|tjane"),
+        Login("Jane.Doe@example.com", "Jane.Doe", "wdoe jane|tjanedoe"),
+        Login("jane+lists+x@example.com", "jane", "wjane|tjane"),
+        Login("+jane@example.com", "+jane", "wjane|tjane"),
+        Login("++x@y", "+", ""),
+        Login("12345+jane@users.noreply.github.com", "jane", "wjane|tjane"),
+        Login(
             "12345+jane+x@USERS.noreply.github.com",
             "jane",
             "wjane|tjane",
         ),
-        ("+jane@users.noreply.github.com", "+jane", "wjane|tjane"),
-        ("12345+jane@example.com", "12345", "w12345|t12345"),
-        ("12345@users.noreply.github.com", "12345", "w12345|t12345"),
-        ("a@b@example.com", "a@b", ""),
-        ("jane", "jane", "wjane|tjane"),
-        ("info@example.com", "info", ""),
-        ("No-Reply@example.com", "No-Reply", ""),
-        ("jd@example.com", "jd", ""),
-        ("12345+git@users.noreply.github.com", "git", ""),
-        ("@example.com", "", ""),
-        ("", "", ""),
+        Login("+jane@users.noreply.github.com", "+jane", "wjane|tjane"),
+        Login("12345+jane@example.com", "12345", "w12345|t12345"),
+        Login("12345@users.noreply.github.com", "12345", "w12345|t12345"),
+        Login("a@b@example.com", "a@b", ""),
+        Login("jane", "jane", "wjane|tjane"),
+        Login("info@example.com", "info", ""),
+        Login("No-Reply@example.com", "No-Reply", ""),
+        Login("jd@example.com", "jd", ""),
+        Login("12345+git@users.noreply.github.com", "git", ""),
+        Login("@example.com", "", ""),
+        Login("", "", ""),
     ];
-    for (i, (email, name, keys)) in TABLE.iter().enumerate() {
-        assert_eq!(rt; login(email.as_bytes()), name.as_bytes(), "row {i}");
-        let found = login_keys(rt.alloc(), email.as_bytes())?;
-        assert_eq!(rt;
-            joined(rt.alloc(), &found)?.as_slice(),
-            keys.as_bytes(),
-            "row {i}"
-        );
-    }
-    Ok(())
-}
-
-/// The first words are those of the model.
-#[test]
-fn names_have_first_words(rt: HostRuntime) -> Result<(), Fail> {
-    static TABLE: [(&str, &str); 6] = [
-        ("Jane Doe", "wjane|tjane"),
-        ("Jane", ""),
-        ("a b", "wa|ta"),
-        ("王 小明", "w王|t王"),
-        ("...", ""),
-        ("Jane (work)", ""),
-    ];
-    for (i, (name, words)) in TABLE.iter().enumerate() {
-        let found = Name::read(rt.alloc(), name.as_bytes())?.first_words(rt.alloc())?;
-        assert_eq!(rt;
-            joined(rt.alloc(), &found)?.as_slice(),
-            words.as_bytes(),
-            "row {i}"
-        );
-    }
-    Ok(())
+    assert_rows(&rt, &LOGINS);
 }

@@ -1,15 +1,17 @@
 //! The binary search, and how many comparisons a lookup takes.
-ghost use Rattle.gix_mailmap.specs.Search.{IsPartitioned};
+ghost use Rattle.mailmap_entries.specs.Search.{IsPartitioned};
 
 use crate::given::Given::{EmailOfName, Name};
-use crate::given::{Given, signature, snapshot_of};
-use gix_mailmap::fold::{Probe, Steps, search};
-use gix_mailmap::{Entry, Snapshot};
+use crate::given::{Given, snapshot_of};
+use crate::rows::{Row, assert_rows};
+use mailmap_snapshot::actor::SignatureRef;
+use mailmap_entries::fold::{Probe, Steps, search};
+use mailmap_grammar::parse_ignore_errors;
+use mailmap_snapshot::Snapshot;
 use std::alloc::{AllocError, Global};
 use std::cmp;
 use std::cmp::Ordering;
 use std::cmp::Ordering::{Equal, Greater, Less};
-use std::test::Fail;
 
 /// Answers that are written out, and how many were asked for.
 #[derive(Drop)]
@@ -50,13 +52,74 @@ fn a_search_asks_at_most_once_for_each_digit(rt: HostRuntime) {
 /// The number of comparisons of a lookup.
 fn steps_of(snapshot: &Snapshot, name: &[u8], email: &[u8]) -> usize {
     let mut steps = Steps::new();
-    let _found = snapshot.try_resolve_ref_counted(signature(name, email, ""), &mut steps);
+    let asked = SignatureRef {
+        name,
+        email,
+        time: "",
+    };
+    let _found = snapshot.try_resolve_ref_counted(asked, &mut steps);
     steps.count()
 }
 
-/// One for each digit of the number of emails, and of names of the email that is found.
+/// Entries, a name and an email, and how many comparisons a lookup takes at least and at most.
+struct Counted(&'static [Given], &'static [u8], &'static [u8], usize, usize);
+
+impl Row for Counted {
+    fn is_right(&self, alloc: Global) -> bool {
+        let Counted(given, name, email, least, most) = self;
+        match snapshot_of(alloc, given) {
+            Ok(snapshot) => {
+                let count = steps_of(&snapshot, name, email);
+                *least <= count && count <= *most
+            }
+            Err(_) => false,
+        }
+    }
+}
+
+/// How many of 1,024 emails are known, and how many comparisons the lookup of each of them takes at most.
+struct Many(usize, usize);
+
+impl Row for Many {
+    fn is_right(&self, alloc: Global) -> bool {
+        match numbered_lines(alloc) {
+            Ok(lines) => is_fast(alloc, lines.as_bytes(), self.0, self.1),
+            Err(_) => false,
+        }
+    }
+}
+
+/// A line with an email for each number from 0 to 1023, of 11 bytes each.
+fn numbered_lines(alloc: Global) -> Result<String, AllocError> {
+    let mut lines = String::new(alloc);
+    for number in 0..1024 {
+        writeln!(&mut lines, "N <{number:04}@x>")?;
+    }
+    Ok(lines)
+}
+
+fn is_fast(alloc: Global, lines: &[u8], known: usize, most: usize) -> bool {
+    let Some(first) = lines.get(..known.saturating_mul(11)) else {
+        return false;
+    };
+    match Snapshot::from_bytes(alloc, first) {
+        Ok(snapshot) => snapshot.len() == known && most_steps(&snapshot, lines) <= most,
+        Err(_) => false,
+    }
+}
+
+fn most_steps(snapshot: &Snapshot, lines: &[u8]) -> usize {
+    let mut most = 0;
+    for entry in parse_ignore_errors(lines) {
+        most = cmp::max(most, steps_of(snapshot, b"n", entry.old_email()));
+    }
+    most
+}
+
+/// One for each digit of the number of emails, and of names of the email that is found. So it is ten among 1,023 emails,
+/// also for one that isn't known, and eleven among one more.
 #[test]
-fn a_lookup_compares_at_most_once_for_each_digit(rt: HostRuntime) -> Result<(), AllocError> {
+fn a_lookup_compares_at_most_once_for_each_digit(rt: HostRuntime) {
     const NAMES: [Given; 6] = [
         Name(b"N", b"a@x"),
         EmailOfName(b"1@x", b"A", b"b@x"),
@@ -65,58 +128,18 @@ fn a_lookup_compares_at_most_once_for_each_digit(rt: HostRuntime) -> Result<(), 
         EmailOfName(b"4@x", b"D", b"b@x"),
         Name(b"N", b"c@x"),
     ];
-    static TABLE: [(&[Given], &[u8], &[u8], usize, usize); 9] = [
-        (&[], b"n", b"a@x", 0, 0),
-        (&[Name(b"N", b"a@x")], b"n", b"b@x", 1, 1),
-        (&[Name(b"N", b"a@x")], b"n", b"A@x", 1, 1),
-        (&NAMES, b"a", b"b@x", 2, 5),
-        (&NAMES, b"b", b"b@x", 2, 5),
-        (&NAMES, b"c", b"b@x", 2, 5),
-        (&NAMES, b"d", b"b@x", 2, 5),
-        (&NAMES, b"e", b"b@x", 2, 5),
-        (&NAMES, b"a", b"d@x", 1, 2),
+    static TABLE: [Counted; 9] = [
+        Counted(&[], b"n", b"a@x", 0, 0),
+        Counted(&[Name(b"N", b"a@x")], b"n", b"b@x", 1, 1),
+        Counted(&[Name(b"N", b"a@x")], b"n", b"A@x", 1, 1),
+        Counted(&NAMES, b"a", b"b@x", 2, 5),
+        Counted(&NAMES, b"b", b"b@x", 2, 5),
+        Counted(&NAMES, b"c", b"b@x", 2, 5),
+        Counted(&NAMES, b"d", b"b@x", 2, 5),
+        Counted(&NAMES, b"e", b"b@x", 2, 5),
+        Counted(&NAMES, b"a", b"d@x", 1, 2),
     ];
-    for (i, (given, name, email, least, most)) in TABLE.iter().enumerate() {
-        let count = steps_of(&snapshot_of(rt.alloc(), given)?, name, email);
-        assert!(rt; *least <= count && count <= *most, "{count} in row {i}");
-    }
-    Ok(())
-}
-
-fn numbered_emails(alloc: Global) -> Result<Vec<String>, AllocError> {
-    let mut emails = Vec::new(alloc);
-    for number in 0..1024 {
-        emails.push(format!(in alloc; "{number:04}@x")?)?;
-    }
-    Ok(emails)
-}
-
-/// The most comparisons of a lookup for one of these emails, in a snapshot of as many as are known.
-fn most_steps(alloc: Global, emails: &[String], known: &[String]) -> Result<usize, AllocError> {
-    let mut entries = Vec::new(alloc);
-    for email in known {
-        entries.push(Entry::change_name_by_email(b"N", email.as_bytes()))?;
-    }
-    let snapshot = Snapshot::new(alloc, entries.iter().copied())?;
-    Ok(most_steps_in(&snapshot, emails))
-}
-
-fn most_steps_in(snapshot: &Snapshot, emails: &[String]) -> usize {
-    let mut most = 0;
-    for email in emails {
-        most = cmp::max(most, steps_of(snapshot, b"n", email.as_bytes()));
-    }
-    most
-}
-
-/// Ten for 1,023 emails, also for one that isn't known, and eleven for one more.
-#[test]
-fn a_lookup_among_a_thousand_emails_compares_ten_times(rt: HostRuntime) -> Result<(), Fail> {
-    let emails = numbered_emails(rt.alloc())?;
-    let known = emails.get(..1023).ok_or("1,023 emails")?;
-    let most = most_steps(rt.alloc(), &emails, known)?;
-    assert!(rt; most <= 10, "{most}");
-    let most = most_steps(rt.alloc(), &emails, &emails)?;
-    assert!(rt; most <= 11, "{most}");
-    Ok(())
+    assert_rows(&rt, &TABLE);
+    static MANY: [Many; 2] = [Many(1023, 10), Many(1024, 11)];
+    assert_rows(&rt, &MANY);
 }

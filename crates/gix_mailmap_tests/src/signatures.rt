@@ -1,262 +1,258 @@
 use crate::given::Given::{Both, BothOfName, EmailOfName, Name};
-use crate::given::{Given, hash_of, signature, snapshot_of};
-use gix_mailmap::actor;
-use gix_mailmap::date::Time;
-use gix_mailmap::snapshot::Signature;
+use crate::given::{Given, snapshot_of};
+use crate::rows::{Row, assert_rows, comes_at};
+use mailmap_snapshot::{Snapshot, actor};
+use mailmap_snapshot::actor::SignatureRef;
+use mailmap_snapshot::date::Time;
+use mailmap_snapshot::snapshot::Signature;
 use std::alloc::{AllocError, Global};
 use std::borrow::CowSlice;
-use std::cmp::Ordering;
 
-/// A text of a signature.
-#[derive(Clone, Copy, Debug, PartialEq, Eq)]
-enum Text<'a> {
-    Owned(&'a [u8]),
-    Borrowed(&'a [u8]),
+/// Whether a text of a signature is owned, and the text.
+type Text = (bool, &'static [u8]);
+
+const OWNED: bool = true;
+
+const BORROWED: bool = false;
+
+/// A name, an email, and the seconds and the offset of a time.
+type Fields = (Text, Text, (i64, i32));
+
+fn signature<'a>(name: &'a [u8], email: &'a [u8], time: &'a str) -> SignatureRef<'a> {
+    SignatureRef { name, email, time }
 }
 
-use Text::{Borrowed, Owned};
+/// Whether a signature has these fields, each text owned or borrowed.
+fn has_fields(signature: &Signature<'_>, fields: &Fields) -> bool {
+    let (name, email, (seconds, offset)) = fields;
+    is_text(&signature.name, name)
+        && is_text(&signature.email, email)
+        && signature.time.seconds == *seconds
+        && signature.time.offset == *offset
+}
 
-fn text_of<'a>(text: &'a CowSlice<'_, u8>) -> Text<'a> {
-    match text {
-        CowSlice::Owned(text) => Owned(text.as_slice()),
-        CowSlice::Borrowed(text) => Borrowed(*text),
+fn is_text(found: &CowSlice<'_, u8>, (is_owned, text): &Text) -> bool {
+    match found {
+        CowSlice::Owned(found) => *is_owned && found.as_slice() == *text,
+        CowSlice::Borrowed(found) => !*is_owned && *found == *text,
     }
-}
-
-/// The name, the email, and the seconds and the offset of the time.
-type Fields<'a> = (Text<'a>, Text<'a>, (i64, i32));
-
-fn fields_of<'a>(signature: &'a Signature<'_>) -> Fields<'a> {
-    let time = (signature.time.seconds, signature.time.offset);
-    (text_of(&signature.name), text_of(&signature.email), time)
 }
 
 /// Entries, a name, an email and a time, and the answer.
-type Resolved = (
+struct Resolved(
     &'static [Given],
     (&'static [u8], &'static [u8], &'static str),
-    Fields<'static>,
+    Fields,
 );
 
+impl Row for Resolved {
+    fn is_right(&self, alloc: Global) -> bool {
+        let (name, email, time) = self.1;
+        let asked = signature(name, email, time);
+        match snapshot_of(alloc, self.0) {
+            Ok(snapshot) => {
+                is_resolved(alloc, snapshot.resolve_cow(alloc, asked), &self.2)
+                    && is_copied(snapshot.resolve(alloc, asked), &self.2)
+                    && is_found(alloc, &snapshot, asked, &self.2)
+            }
+            Err(_) => false,
+        }
+    }
+}
+
+/// Whether a signature has these fields, and so do its copies.
+fn is_resolved(alloc: Global, cow: Result<Signature<'_>, AllocError>, fields: &Fields) -> bool {
+    match cow {
+        Ok(cow) => {
+            has_fields(&cow, fields)
+                && is_cloned(&cow, cow.try_clone(alloc), fields)
+                && is_copied(actor::Signature::from_cow(alloc, cow), fields)
+        }
+        Err(_) => false,
+    }
+}
+
+fn is_cloned(one: &Signature<'_>, copy: Result<Signature<'_>, AllocError>, fields: &Fields) -> bool {
+    matches!(copy, Ok(copy) if *one == copy && has_fields(&copy, fields))
+}
+
+fn is_copied(copy: Result<actor::Signature, AllocError>, fields: &Fields) -> bool {
+    let ((_, name), (_, email), (seconds, offset)) = *fields;
+    match copy {
+        Ok(copy) => {
+            copy.name.as_slice() == name
+                && copy.email.as_slice() == email
+                && copy.time == Time { seconds, offset }
+        }
+        Err(_) => false,
+    }
+}
+
+/// Whether `try_resolve` finds what `resolve` answers, or nothing if nothing is mapped.
+fn is_found(
+    alloc: Global,
+    snapshot: &Snapshot,
+    asked: SignatureRef<'_>,
+    fields: &Fields,
+) -> bool {
+    let is_mapped = fields.0.0 || fields.1.0;
+    match snapshot.try_resolve(alloc, asked) {
+        Ok(Some(found)) => is_mapped && is_equal(&found, snapshot.resolve(alloc, asked)),
+        Ok(None) => !is_mapped,
+        Err(_) => false,
+    }
+}
+
+fn is_equal(one: &actor::Signature, other: Result<actor::Signature, AllocError>) -> bool {
+    matches!(other, Ok(other) if *one == other)
+}
+
 /// Mapped texts are owned, and others are borrowed. A time that can't be read becomes the default one.
-static RESOLVED: [Resolved; 12] = [
-    (
-        &[
-            Both(b"Joe R. Developer", b"joe@example.com", b"bugs@example.com"),
-            BothOfName(
-                b"Jane Doe",
-                b"jane@example.com",
-                b"Jane",
-                b"bugs@example.com",
+#[test]
+fn only_mapped_texts_are_owned(rt: HostRuntime) {
+    static RESOLVED: [Resolved; 12] = [
+        Resolved(
+            &[
+                Both(b"Joe R. Developer", b"joe@example.com", b"bugs@example.com"),
+                BothOfName(
+                    b"Jane Doe",
+                    b"jane@example.com",
+                    b"Jane",
+                    b"bugs@example.com",
+                ),
+            ],
+            (b"Jane", b"bugs@example.com", "1711398853 +0800"),
+            (
+                (OWNED, b"Jane Doe"),
+                (OWNED, b"jane@example.com"),
+                (1711398853, 28800),
             ),
-        ],
-        (b"Jane", b"bugs@example.com", "1711398853 +0800"),
-        (
-            Owned(b"Jane Doe"),
-            Owned(b"jane@example.com"),
-            (1711398853, 28800),
         ),
-    ),
-    (
-        &[Name(b"P", b"x@y")],
-        (b"Bob", b"x@y", "5 +0000"),
-        (Owned(b"P"), Borrowed(b"x@y"), (5, 0)),
-    ),
-    (
-        &[Name(b"P", b"x@y")],
-        (b"Bob", b"X@y", "5 +0000"),
-        (Owned(b"P"), Owned(b"x@y"), (5, 0)),
-    ),
-    (
-        &[EmailOfName(b"n@y", b"Jane", b"x@y")],
-        (b"Bob", b"X@y", "5 +0000"),
-        (Borrowed(b"Bob"), Owned(b"x@y"), (5, 0)),
-    ),
-    (
-        &[EmailOfName(b"n@y", b"Jane", b"x@y")],
-        (b"Bob", b"x@y", "5 +0000"),
-        (Borrowed(b"Bob"), Borrowed(b"x@y"), (5, 0)),
-    ),
-    (
-        &[EmailOfName(b"n@y", b"Jane", b"x@y")],
-        (b"Jane", b"x@y", "5 +0000"),
-        (Borrowed(b"Jane"), Owned(b"n@y"), (5, 0)),
-    ),
-    (
-        &[],
-        (b"Bob", b"b@x", "1 +0130"),
-        (Borrowed(b"Bob"), Borrowed(b"b@x"), (1, 5400)),
-    ),
-    (
-        &[],
-        (b"Bob", b"b@x", "soon"),
-        (Borrowed(b"Bob"), Borrowed(b"b@x"), (0, 0)),
-    ),
-    (
-        &[Name(b"P", b"x@y")],
-        (b"Bob", b"x@y", "9223372036854775808 +0000"),
-        (Owned(b"P"), Borrowed(b"x@y"), (0, 0)),
-    ),
-    (
-        &[],
-        (b"Bob", b"b@x", "1 +130"),
-        (Borrowed(b"Bob"), Borrowed(b"b@x"), (0, 0)),
-    ),
-    (
-        &[],
-        (b"Bob", b"b@x", "+1 +0000"),
-        (Borrowed(b"Bob"), Borrowed(b"b@x"), (0, 0)),
-    ),
-    (
-        &[],
-        (b"Bob", b"b@x", "1  +0000"),
-        (Borrowed(b"Bob"), Borrowed(b"b@x"), (0, 0)),
-    ),
-];
-
-fn is_resolved(alloc: Global, (given, asked, want): &Resolved) -> Result<bool, AllocError> {
-    let snapshot = snapshot_of(alloc, given)?;
-    let (name, email, time) = asked;
-    let resolved = snapshot.resolve_cow(alloc, signature(name, email, time))?;
-    Ok(has_fields(&resolved, want) && is_cloned(alloc, &resolved, want)?)
+        Resolved(
+            &[Name(b"P", b"x@y")],
+            (b"Bob", b"x@y", "5 +0000"),
+            ((OWNED, b"P"), (BORROWED, b"x@y"), (5, 0)),
+        ),
+        Resolved(
+            &[Name(b"P", b"x@y")],
+            (b"Bob", b"X@y", "5 +0000"),
+            ((OWNED, b"P"), (OWNED, b"x@y"), (5, 0)),
+        ),
+        Resolved(
+            &[EmailOfName(b"n@y", b"Jane", b"x@y")],
+            (b"Bob", b"X@y", "5 +0000"),
+            ((BORROWED, b"Bob"), (OWNED, b"x@y"), (5, 0)),
+        ),
+        Resolved(
+            &[EmailOfName(b"n@y", b"Jane", b"x@y")],
+            (b"Bob", b"x@y", "5 +0000"),
+            ((BORROWED, b"Bob"), (BORROWED, b"x@y"), (5, 0)),
+        ),
+        Resolved(
+            &[EmailOfName(b"n@y", b"Jane", b"x@y")],
+            (b"Jane", b"x@y", "5 +0000"),
+            ((BORROWED, b"Jane"), (OWNED, b"n@y"), (5, 0)),
+        ),
+        Resolved(
+            &[],
+            (b"Bob", b"b@x", "1 +0130"),
+            ((BORROWED, b"Bob"), (BORROWED, b"b@x"), (1, 5400)),
+        ),
+        Resolved(
+            &[],
+            (b"Bob", b"b@x", "soon"),
+            ((BORROWED, b"Bob"), (BORROWED, b"b@x"), (0, 0)),
+        ),
+        Resolved(
+            &[Name(b"P", b"x@y")],
+            (b"Bob", b"x@y", "9223372036854775808 +0000"),
+            ((OWNED, b"P"), (BORROWED, b"x@y"), (0, 0)),
+        ),
+        Resolved(
+            &[],
+            (b"Bob", b"b@x", "1 +130"),
+            ((BORROWED, b"Bob"), (BORROWED, b"b@x"), (0, 0)),
+        ),
+        Resolved(
+            &[],
+            (b"Bob", b"b@x", "+1 +0000"),
+            ((BORROWED, b"Bob"), (BORROWED, b"b@x"), (0, 0)),
+        ),
+        Resolved(
+            &[],
+            (b"Bob", b"b@x", "1  +0000"),
+            ((BORROWED, b"Bob"), (BORROWED, b"b@x"), (0, 0)),
+        ),
+    ];
+    assert_rows(&rt, &RESOLVED);
 }
 
-fn has_fields(signature: &Signature<'_>, want: &Fields<'_>) -> bool {
-    fields_of(signature) == *want
-}
-
-fn is_cloned(
-    alloc: Global,
-    signature: &Signature<'_>,
-    want: &Fields<'_>,
-) -> Result<bool, AllocError> {
-    let copy = signature.try_clone(alloc)?;
-    Ok(has_fields(&copy, want) && copy == *signature)
-}
-
-#[test]
-fn only_mapped_texts_are_owned(rt: HostRuntime) -> Result<(), AllocError> {
-    for (i, row) in RESOLVED.iter().enumerate() {
-        assert!(rt; is_resolved(rt.alloc(), row)?, "row {i}");
-    }
-    Ok(())
-}
-
-/// The fields of a signature that owns its texts.
-fn owned_fields(signature: &actor::Signature) -> (&[u8], &[u8], (i64, i32)) {
-    let time = (signature.time.seconds, signature.time.offset);
-    (signature.name.as_slice(), signature.email.as_slice(), time)
-}
-
-fn bytes_of<'a>(text: &Text<'a>) -> &'a [u8] {
-    match *text {
-        Owned(text) | Borrowed(text) => text,
+/// A name and an email that are borrowed, and a time.
+fn borrowed(name: &'static [u8], email: &'static [u8], seconds: i64, offset: i32) -> Signature<'static> {
+    Signature {
+        name: CowSlice::Borrowed(name),
+        email: CowSlice::Borrowed(email),
+        time: Time { seconds, offset },
     }
 }
 
-/// Whether a text is mapped. Others are borrowed.
-fn is_mapped((name, email, _): &Fields<'_>) -> bool {
-    matches!(name, Owned(_)) || matches!(email, Owned(_))
+fn ascending() -> [Signature<'static>; 6] {
+    [
+        borrowed(b"", b"", 0, 0),
+        borrowed(b"P", b"a@y", 7, 0),
+        borrowed(b"P", b"x@y", 5, -60),
+        borrowed(b"P", b"x@y", 5, 0),
+        borrowed(b"P", b"x@y", 6, 0),
+        borrowed(b"p", b"", 0, 0),
+    ]
 }
 
-fn is_copied(alloc: Global, (given, asked, want): &Resolved) -> Result<bool, AllocError> {
-    let snapshot = snapshot_of(alloc, given)?;
-    let (name, email, time) = asked;
-    let asked = signature(name, email, time);
-    let (new_name, new_email, read) = want;
-    let resolved = snapshot.resolve(alloc, asked)?;
-    let cow = snapshot.resolve_cow(alloc, asked)?;
-    let fields = (bytes_of(new_name), bytes_of(new_email), *read);
-    Ok(
-        owned_fields(&resolved) == fields
-            && actor::Signature::from_cow(alloc, cow)? == resolved
-            && snapshot.try_resolve(alloc, asked)? == is_mapped(want).then_some(resolved),
-    )
-}
+/// The place of a signature among these, and its fields.
+struct Placed(usize, Fields);
 
-/// If nothing is mapped, `try_resolve` answers nothing.
-#[test]
-fn a_signature_is_copied_with_its_mapped_texts(rt: HostRuntime) -> Result<(), AllocError> {
-    for (i, row) in RESOLVED.iter().enumerate() {
-        assert!(rt; is_copied(rt.alloc(), row)?, "row {i}");
+impl Row for Placed {
+    fn is_right(&self, alloc: Global) -> bool {
+        matches!(signature_of(alloc, &self.1), Ok(one) if comes_at(&one, self.0, &ascending()))
     }
-    Ok(())
 }
 
-fn signature_of<'a>(
-    alloc: Global,
-    (name, email, (seconds, offset)): &Fields<'a>,
-) -> Result<Signature<'a>, AllocError> {
+fn signature_of(alloc: Global, fields: &Fields) -> Result<Signature<'static>, AllocError> {
+    let (name, email, (seconds, offset)) = *fields;
     Ok(Signature {
         name: cow_of(alloc, name)?,
         email: cow_of(alloc, email)?,
-        time: Time {
-            seconds: *seconds,
-            offset: *offset,
-        },
+        time: Time { seconds, offset },
     })
 }
 
-fn cow_of<'a>(alloc: Global, text: &Text<'a>) -> Result<CowSlice<'a, u8>, AllocError> {
-    match *text {
-        Owned(text) => Ok(CowSlice::Owned(Vec::from_slice(alloc, text)?)),
-        Borrowed(text) => Ok(CowSlice::Borrowed(text)),
+fn cow_of(alloc: Global, (is_owned, text): Text) -> Result<CowSlice<'static, u8>, AllocError> {
+    if is_owned {
+        Ok(CowSlice::Owned(Vec::from_slice(alloc, text)?))
+    } else {
+        Ok(CowSlice::Borrowed(text))
     }
-}
-
-fn compare_as(
-    alloc: Global,
-    one: &Fields<'_>,
-    other: &Fields<'_>,
-    order: Ordering,
-) -> Result<bool, AllocError> {
-    Ok(signature_of(alloc, one)?.cmp(&signature_of(alloc, other)?) == order)
-}
-
-/// Whether a signature is equal to the one that owns both texts, and hashes as it does.
-fn equals_owned(alloc: Global, fields: &Fields<'_>) -> Result<bool, AllocError> {
-    let (name, email, time) = fields;
-    let one = signature_of(alloc, fields)?;
-    let owned = (Owned(bytes_of(name)), Owned(bytes_of(email)), *time);
-    let other = signature_of(alloc, &owned)?;
-    Ok(one == other && hash_of(&one) == hash_of(&other))
 }
 
 /// By name, email and time, whether texts are owned or borrowed.
 #[test]
-fn signatures_compare_by_their_bytes(rt: HostRuntime) -> Result<(), AllocError> {
-    static ASCENDING: [Fields<'static>; 6] = [
-        (Borrowed(b""), Borrowed(b""), (0, 0)),
-        (Borrowed(b"P"), Owned(b"a@y"), (7, 0)),
-        (Owned(b"P"), Borrowed(b"x@y"), (5, -60)),
-        (Borrowed(b"P"), Borrowed(b"x@y"), (5, 0)),
-        (Owned(b"P"), Owned(b"x@y"), (6, 0)),
-        (Borrowed(b"p"), Borrowed(b""), (0, 0)),
+fn signatures_compare_by_their_bytes(rt: HostRuntime) {
+    static TABLE: [Placed; 6] = [
+        Placed(0, ((BORROWED, b""), (BORROWED, b""), (0, 0))),
+        Placed(1, ((BORROWED, b"P"), (OWNED, b"a@y"), (7, 0))),
+        Placed(2, ((OWNED, b"P"), (BORROWED, b"x@y"), (5, -60))),
+        Placed(3, ((BORROWED, b"P"), (BORROWED, b"x@y"), (5, 0))),
+        Placed(4, ((OWNED, b"P"), (OWNED, b"x@y"), (6, 0))),
+        Placed(5, ((BORROWED, b"p"), (BORROWED, b""), (0, 0))),
     ];
-    for (i, one) in ASCENDING.iter().enumerate() {
-        assert!(rt; equals_owned(rt.alloc(), one)?, "row {i}");
-        for (j, other) in ASCENDING.iter().enumerate() {
-            assert!(rt;
-                compare_as(rt.alloc(), one, other, i.cmp(&j))?,
-                "rows {i} and {j}"
-            );
-        }
-    }
-    Ok(())
-}
-
-#[test]
-fn the_default_borrows_two_empty_texts(rt: HostRuntime) {
-    let want: Fields<'_> = (Borrowed(b""), Borrowed(b""), (0, 0));
-    let taken = Signature::from(signature(b"", b"", ""));
-    assert!(rt; fields_of(&taken) == want);
-    assert!(rt; fields_of(&Signature::default()) == want);
-    assert!(rt; taken == Signature::default());
+    assert_rows(&rt, &TABLE);
 }
 
 /// Signatures as commits have them are equal by their texts, so two spellings of a time differ.
 #[test]
-fn times_of_commits_compare_by_their_texts(rt: HostRuntime) {
+fn the_default_borrows_two_empty_texts(rt: HostRuntime) {
+    static EMPTY: Fields = ((BORROWED, b""), (BORROWED, b""), (0, 0));
+    assert!(rt; has_fields(&Signature::from(signature(b"", b"", "")), &EMPTY));
+    assert!(rt; has_fields(&Signature::default(), &EMPTY));
     let one = signature(b"N", b"a@x", "1 +0000");
     assert!(rt; one == signature(b"N", b"a@x", "1 +0000"));
     assert!(rt; one != signature(b"n", b"a@x", "1 +0000"));

@@ -1,11 +1,31 @@
-use gix_mailmap::snapshot::Source;
-use gix_mailmap::{Entry, Snapshot};
-use std::alloc::{AllocError, Global};
+use mailmap_entries::Entry;
+use mailmap_snapshot::Snapshot;
+use mailmap_snapshot::snapshot::Source;
+use std::alloc::Global;
+
+/// Whether all sources are merged after those before, and the snapshot lists these entries then.
+fn are_merged(snapshot: &mut Snapshot, sources: &[Source<'_>], listed: &[Entry<'_>]) -> bool {
+    let mut made = [false, true, false];
+    let Some(made) = made.get_mut(..sources.len()) else {
+        return false;
+    };
+    snapshot.merge_sources(sources, made);
+    !made.contains(&false) && snapshot.iter().eq(listed.iter().copied())
+}
+
+fn is_merged_in_turn(alloc: Global, sources: &[Source<'_>], want: &Snapshot) -> bool {
+    let mut snapshot = Snapshot::empty(alloc);
+    for source in sources {
+        if snapshot.merge_source(source).is_err() {
+            return false;
+        }
+    }
+    snapshot == *want
+}
 
 /// Sources are merged in their order, and one without an entry counts as merged. Marks are set, whatever they were.
 #[test]
-fn sources_are_merged_in_turn(rt: HostRuntime) -> Result<(), AllocError> {
-    let named = Entry::change_name_by_email(b"M", b"a@x");
+fn sources_are_merged_in_turn(rt: HostRuntime) {
     let emails = [
         Entry::default(),
         Entry::change_email_by_email(b"n@y", b"B@x"),
@@ -17,22 +37,9 @@ fn sources_are_merged_in_turn(rt: HostRuntime) -> Result<(), AllocError> {
         Source::Entries(&emails),
         Source::Entries(&emails[..1]),
     ];
-    let mut made = [false, true, false, false, false];
+    let listed = [Entry::change_name_by_email(b"M", b"a@x"), emails[1]];
     let mut snapshot = Snapshot::empty(rt.alloc());
-    snapshot.merge_sources(&sources[..3], &mut made[..3]);
-    assert!(rt; made == [true, true, true, false, false]);
-    assert!(rt; snapshot.iter().eq([named].into_iter()));
-    snapshot.merge_sources(&sources[3..], &mut made[3..]);
-    assert!(rt; made == [true; 5]);
-    assert!(rt; snapshot.iter().eq([named, emails[1]].into_iter()));
-    assert!(rt; merged_in_turn(rt.alloc(), &sources)? == snapshot);
-    Ok(())
-}
-
-fn merged_in_turn(alloc: Global, sources: &[Source<'_>]) -> Result<Snapshot, AllocError> {
-    let mut snapshot = Snapshot::empty(alloc);
-    for source in sources {
-        snapshot.merge_source(source)?;
-    }
-    Ok(snapshot)
+    assert!(rt; are_merged(&mut snapshot, &sources[..3], &listed[..1]));
+    assert!(rt; are_merged(&mut snapshot, &sources[3..], &listed));
+    assert!(rt; is_merged_in_turn(rt.alloc(), &sources, &snapshot));
 }

@@ -9,7 +9,6 @@ use check_command::run::{run, run_compact};
 use command_line::failure::Failure;
 use std::alloc::Global;
 use std::io::{Error, ErrorKind, Read, Write};
-use std::process::Abort;
 use std::{cmp, io};
 use verify_command::failure::TaskFailure;
 
@@ -144,56 +143,53 @@ fn performed<R: Read, W: Write>(
     }
 }
 
-/// Asserts how a run over three lines ends and what it writes. All of that is flushed, unless the run fails.
-fn assert_run(
-    rt: &(impl Abort + AllocGlobal),
-    words: &str,
-    turns: [&[u8]; 3],
-    ended: Ended,
-    want: &str,
-) {
-    let [reads, writes, flushes] = turns;
-    let mut input = Source {
-        bytes: b"--\nb <A@x>\np",
-        turns: reads,
-    };
-    let mut output = Sink {
-        taken: Vec::new(rt.alloc()),
-        writes,
-        flushes,
-        flushed: 0,
-    };
-    let end = performed(rt.alloc(), words, &mut input, &mut output);
-    assert_eq!(rt; end, ended, "{words}");
-    assert_eq!(rt; output.taken.as_slice(), want.as_bytes(), "{words}");
-    let left = output.taken.len() != output.flushed;
-    assert!(rt; end.is_err() || !left, "{words}");
+/// The words of a run over three lines, the turns of its reads, writes and flushes, how it ends, and what it writes.
+struct Run(&'static str, [&'static [u8]; 3], Ended, &'static str);
+
+impl Run {
+    /// Whether it ends and writes so. All of that is flushed, unless the run fails.
+    fn is_right(&self, alloc: Global) -> bool {
+        let Run(words, [reads, writes, flushes], ended, want) = self;
+        let mut input = Source {
+            bytes: b"--\nb <A@x>\np",
+            turns: reads,
+        };
+        let mut output = Sink {
+            taken: Vec::new(alloc),
+            writes,
+            flushes,
+            flushed: 0,
+        };
+        let end = performed(alloc, words, &mut input, &mut output);
+        let is_flushed = output.taken.len() == output.flushed;
+        end == *ended && output.taken.as_slice() == want.as_bytes() && (end.is_err() || is_flushed)
+    }
 }
 
 /// An interrupted read is repeated, however often, one that would block is not, and nothing is read after the end.
 /// Before a failure, all lines that ended are answered or explained, if these come in turn.
 #[test]
 fn reads_can_be_short_interrupted_or_fail(rt: HostRuntime) {
-    static ROWS: [(&str, &[u8], Ended, &str); 16] = [
-        ("check", b"m", Err(Failure::Memory), ""),
-        ("check", b"*0x", DONE, "b <A@x>\np\n"),
-        ("check", b"i1i", DONE, "b <A@x>\np\n"),
-        ("check map", b"6i", DONE, "--\nN <a@x>\np\n"),
-        ("check map", b"5ib", BLOCKED, "--\n"),
-        ("check map", &[b'i'; 5_000], DONE, "--\nN <a@x>\np\n"),
-        ("check --compact map", b"x", DONE, " N <a@x>\n"),
-        ("check --compact", b"x", BROKEN, ""),
-        ("verify --prune -", b"1i", DONE, "--\nb <A@x>\np"),
-        ("verify --explain map", b"*ib", BLOCKED, EXPLAINED),
-        ("verify --contacts - map", b"11i", DONE, BESIDE),
-        ("verify --suggest - map", b"1i", DONE, SUGGESTED),
-        ("shortlog map", b"1111111111", DONE, "     1\tN\n"),
-        ("shortlog map", b"8i", DONE, "     1\tN\n"),
-        ("shortlog map", b"5b", BLOCKED, ""),
-        ("shortlog map", b"*ib", BLOCKED, ""),
+    static ROWS: [Run; 16] = [
+        Run("check", [b"m", b"", b""], Err(Failure::Memory), ""),
+        Run("check", [b"*0x", b"", b""], DONE, "b <A@x>\np\n"),
+        Run("check", [b"i1i", b"", b""], DONE, "b <A@x>\np\n"),
+        Run("check map", [b"6i", b"", b""], DONE, "--\nN <a@x>\np\n"),
+        Run("check map", [b"5ib", b"", b""], BLOCKED, "--\n"),
+        Run("check map", [&[b'i'; 5_000], b"", b""], DONE, "--\nN <a@x>\np\n"),
+        Run("check --compact map", [b"x", b"", b""], DONE, " N <a@x>\n"),
+        Run("check --compact", [b"x", b"", b""], BROKEN, ""),
+        Run("verify --prune -", [b"1i", b"", b""], DONE, "--\nb <A@x>\np"),
+        Run("verify --explain map", [b"*ib", b"", b""], BLOCKED, EXPLAINED),
+        Run("verify --contacts - map", [b"11i", b"", b""], DONE, BESIDE),
+        Run("verify --suggest - map", [b"1i", b"", b""], DONE, SUGGESTED),
+        Run("shortlog map", [b"1111111111", b"", b""], DONE, "     1\tN\n"),
+        Run("shortlog map", [b"8i", b"", b""], DONE, "     1\tN\n"),
+        Run("shortlog map", [b"5b", b"", b""], BLOCKED, ""),
+        Run("shortlog map", [b"*ib", b"", b""], BLOCKED, ""),
     ];
-    for (words, reads, ended, want) in &ROWS {
-        assert_run(&rt, words, [*reads, b"", b""], *ended, want);
+    for row in &ROWS {
+        assert!(rt; row.is_right(rt.alloc()), "{}", row.0);
     }
 }
 
@@ -201,34 +197,34 @@ fn reads_can_be_short_interrupted_or_fail(rt: HostRuntime) {
 /// interrupted write is repeated. Answers and explanations are flushed before more is read.
 #[test]
 fn writes_can_be_short_interrupted_or_fail(rt: HostRuntime) {
-    static ROWS: [(&str, &[u8], &[u8], Ended, &str); 19] = [
-        ("check", b"30", b"", UNWRITTEN, "b <"),
-        ("check", b"", b"x", UNWRITTEN, "b <A@x>\np\n"),
-        ("check", b"1i2", b"", DONE, "b <A@x>\np\n"),
-        ("check map", b"", b"x", UNWRITTEN, "--\nN <a@x>\n"),
-        ("check map", b"11i", b"", DONE, "--\nN <a@x>\np\n"),
-        ("check map", &[b'i'; 5_000], b"", DONE, "--\nN <a@x>\np\n"),
-        ("check --compact map", b"", b"x", UNWRITTEN, " N <a@x>\n"),
-        ("verify map", b"", b"x", UNWRITTEN, ""),
-        ("verify -", b"1", b"", DONE, FOUND),
-        ("verify --prune -", b"20", b"", UNWRITTEN, "--"),
-        ("verify --prune -", b"", b"x", UNWRITTEN, "--\nb <A@x>\np"),
-        ("verify --prune -", b"12", b"", DONE, "--\nb <A@x>\np"),
-        ("verify --explain map", b"", b"x", UNWRITTEN, EXPLAINED),
-        ("verify --explain map", b"*x", b"", UNWRITTEN, EXPLAINED),
-        ("verify --explain map", b"1i", b"", DONE, ALL_EXPLAINED),
-        ("verify --contacts - map", b"1", b"", DONE, BESIDE),
-        ("verify --suggest - map", b"1", b"", DONE, SUGGESTED),
-        ("shortlog map", b"111", b"", DONE, "     1\tN\n"),
-        ("shortlog map", b"", b"x", UNWRITTEN, "     1\tN\n"),
+    static ROWS: [Run; 19] = [
+        Run("check", [b"", b"30", b""], UNWRITTEN, "b <"),
+        Run("check", [b"", b"", b"x"], UNWRITTEN, "b <A@x>\np\n"),
+        Run("check", [b"", b"1i2", b""], DONE, "b <A@x>\np\n"),
+        Run("check map", [b"", b"", b"x"], UNWRITTEN, "--\nN <a@x>\n"),
+        Run("check map", [b"", b"11i", b""], DONE, "--\nN <a@x>\np\n"),
+        Run("check map", [b"", &[b'i'; 5_000], b""], DONE, "--\nN <a@x>\np\n"),
+        Run("check --compact map", [b"", b"", b"x"], UNWRITTEN, " N <a@x>\n"),
+        Run("verify map", [b"", b"", b"x"], UNWRITTEN, ""),
+        Run("verify -", [b"", b"1", b""], DONE, FOUND),
+        Run("verify --prune -", [b"", b"20", b""], UNWRITTEN, "--"),
+        Run("verify --prune -", [b"", b"", b"x"], UNWRITTEN, "--\nb <A@x>\np"),
+        Run("verify --prune -", [b"", b"12", b""], DONE, "--\nb <A@x>\np"),
+        Run("verify --explain map", [b"", b"", b"x"], UNWRITTEN, EXPLAINED),
+        Run("verify --explain map", [b"", b"*x", b""], UNWRITTEN, EXPLAINED),
+        Run("verify --explain map", [b"", b"1i", b""], DONE, ALL_EXPLAINED),
+        Run("verify --contacts - map", [b"", b"1", b""], DONE, BESIDE),
+        Run("verify --suggest - map", [b"", b"1", b""], DONE, SUGGESTED),
+        Run("shortlog map", [b"", b"111", b""], DONE, "     1\tN\n"),
+        Run("shortlog map", [b"", b"", b"x"], UNWRITTEN, "     1\tN\n"),
     ];
-    for (words, writes, flushes, ended, want) in &ROWS {
-        assert_run(&rt, words, [b"", *writes, *flushes], *ended, want);
+    for row in &ROWS {
+        assert!(rt; row.is_right(rt.alloc()), "{}", row.0);
     }
 }
 
 /// Whether mailmaps are compacted, their bytes if they are files, the turns and the bytes of the input, and the output.
-type Row = (
+struct Left(
     bool,
     Option<&'static [&'static [u8]]>,
     &'static [u8],
@@ -236,33 +232,36 @@ type Row = (
     &'static str,
 );
 
-/// Whether a run ends without a failure and leaves this output.
-fn is_left(alloc: Global, (compact, files, turns, input, want): &Row) -> bool {
-    let mut output = Vec::new(alloc);
-    let mut input = Source {
-        bytes: input.as_bytes(),
-        turns: *turns,
-    };
-    let end = if *compact {
-        run_compact(alloc, *files, &mut input, &mut output)
-    } else {
-        run(alloc, *files, &mut input, &mut output)
-    };
-    end == DONE && output.as_slice() == want.as_bytes()
+impl Left {
+    /// Whether a run ends without a failure and leaves this output.
+    fn is_right(&self, alloc: Global) -> bool {
+        let Left(compact, files, turns, input, want) = self;
+        let mut output = Vec::new(alloc);
+        let mut input = Source {
+            bytes: input.as_bytes(),
+            turns,
+        };
+        let end = if *compact {
+            run_compact(alloc, *files, &mut input, &mut output)
+        } else {
+            run(alloc, *files, &mut input, &mut output)
+        };
+        end == DONE && output.as_slice() == want.as_bytes()
+    }
 }
 
 /// Mailmaps as files, or in front of a line `--`, and what is written without a failure. What isn't needed isn't read.
 #[test]
 fn contacts_are_answered_and_mailmaps_written_as_one(rt: HostRuntime) {
-    static ROWS: [Row; 5] = [
-        (
+    static ROWS: [Left; 5] = [
+        Left(
             false,
             None,
             b"",
             "Joe R. Developer <joe@example.com> <bugs@example.com>\n--\nbob <BUGS@example.com>\n",
             "Joe R. Developer <joe@example.com>\n",
         ),
-        (
+        Left(
             false,
             None,
             b"",
@@ -271,21 +270,21 @@ fn contacts_are_answered_and_mailmaps_written_as_one(rt: HostRuntime) {
             --\nbob <BUGS@example.com>\nnot a contact\n",
             "Joe R. Developer <joe@example.com>\nnot a contact\n",
         ),
-        (
+        Left(
             false,
             Some(&[b"N <n@x> <a@x>"]),
             b"",
             "b <A@x>",
             "N <n@x>\n",
         ),
-        (
+        Left(
             true,
             None,
             b"",
             " # c <a@x>\nJane <j@x> <>\n<n@y> Bob <A@X>",
             " Jane <j@x> <>\n # c <a@x>\n <n@y> Bob <a@x>\n",
         ),
-        (
+        Left(
             true,
             Some(&[b"N <a@x>", b"M <A@x>"]),
             b"x",
@@ -294,6 +293,6 @@ fn contacts_are_answered_and_mailmaps_written_as_one(rt: HostRuntime) {
         ),
     ];
     for (i, row) in ROWS.iter().enumerate() {
-        assert!(rt; is_left(rt.alloc(), row), "row {i}");
+        assert!(rt; row.is_right(rt.alloc()), "row {i}");
     }
 }

@@ -1,6 +1,7 @@
 //! The text pool is rebuilt once it has become twice as long, so that merges that replace texts don't grow it without
 //! bound. The pool's length isn't public, but sixty copies show it: they take at most twice the memory of their texts.
-use gix_mailmap::{Entry, Snapshot};
+use mailmap_entries::Entry;
+use mailmap_snapshot::Snapshot;
 use std::fs;
 use std::process::Abort;
 use std::rt::Files;
@@ -9,8 +10,9 @@ use std::test::Fail;
 /// The process's resident memory in bytes, as the system reports it.
 fn resident<R: Files + AllocGlobal>(rt: &R) -> Result<usize, Fail> {
     let text = fs::read_to_string(rt, "/proc/self/statm")?;
-    let pages: Option<usize> = text.split(' ').nth(1).and_then(|word| word.parse().ok());
-    Ok(pages.ok_or("a count of pages")?.saturating_mul(4096))
+    let word = text.split(' ').nth(1).ok_or("two words")?;
+    let pages: usize = word.parse()?;
+    Ok(pages.saturating_mul(4096))
 }
 
 /// Asserts how much memory sixty copies of a snapshot take, after merges of entries that it has already. If `replaced`,
@@ -48,15 +50,18 @@ static NAME: [u8; 260_000] = [b'N'; 260_000];
 fn replaced_texts_are_given_up(rt: HostRuntime) -> Result<(), Fail> {
     let one = [Entry::change_name_by_email(&NAME, b"a@x")];
     let quarter = &NAME[..65_000];
-    let emails = ["a@x", "b@x", "c@x", "d@x"].map(|email| Entry::change_name_by_email(
-        quarter,
-        email.as_bytes(),
-    ));
-    let names = ["A", "B", "C", "D"].map(|name| Entry::change_email_by_name_and_email(
-        quarter,
-        name.as_bytes(),
-        b"a@x",
-    ));
+    let emails = [
+        Entry::change_name_by_email(quarter, b"a@x"),
+        Entry::change_name_by_email(quarter, b"b@x"),
+        Entry::change_name_by_email(quarter, b"c@x"),
+        Entry::change_name_by_email(quarter, b"d@x"),
+    ];
+    let names = [
+        Entry::change_email_by_name_and_email(quarter, b"A", b"a@x"),
+        Entry::change_email_by_name_and_email(quarter, b"B", b"a@x"),
+        Entry::change_email_by_name_and_email(quarter, b"C", b"a@x"),
+        Entry::change_email_by_name_and_email(quarter, b"D", b"a@x"),
+    ];
     let mut copies = Vec::new(rt.alloc());
     assert_given_up(&rt, &one, &one, false, &mut copies)?;
     assert_given_up(&rt, &emails, &emails[1..2], false, &mut copies)?;
