@@ -66,21 +66,19 @@ fn a_constructor_sets_just_its_fields(rt: HostRuntime) {
 /// what it begins, and upper case before lower case.
 #[test]
 fn entries_ascend_field_by_field(rt: HostRuntime) {
-    static TABLE: [Ascending; 1] = [
-        Ascending(&[
-            Nothing,
-            Email(b"e", b"a"),
-            Email(b"e", b"b"),
-            EmailOfName(b"e", b"", b"a"),
-            EmailOfName(b"e", b"N", b"a"),
-            Email(b"f", b"a"),
-            Name(b"A", b"a"),
-            Name(b"A", b"aa"),
-            Both(b"A", b"", b"a"),
-            BothOfName(b"A", b"", b"n", b"a"),
-            Both(b"A", b"e", b""),
-            Name(b"a", b""),
-        ]),
-    ];
+    static TABLE: [Ascending; 1] = [Ascending(&[
+        Nothing,
+        Email(b"e", b"a"),
+        Email(b"e", b"b"),
+        EmailOfName(b"e", b"", b"a"),
+        EmailOfName(b"e", b"N", b"a"),
+        Email(b"f", b"a"),
+        Name(b"A", b"a"),
+        Name(b"A", b"aa"),
+        Both(b"A", b"", b"a"),
+        BothOfName(b"A", b"", b"n", b"a"),
+        Both(b"A", b"e", b""),
+        Name(b"a", b""),
+    ])];
     assert_rows(&rt, &TABLE);
 }

@@ -4,8 +4,8 @@ use crate::given::Given::{BothOfName, EmailOfName, Name};
 use crate::lines::{Item, Parsed, are_parsed};
 use crate::listing::{is_listed, merged_in_turn};
 use crate::rows::{Row, assert_rows};
-use mailmap_grammar::lines::Error::{MissingClosingBracket, NoEmail, UnclosedSecond};
 use mailmap_entries::Entry;
+use mailmap_grammar::lines::Error::{MissingClosingBracket, NoEmail, UnclosedSecond};
 use mailmap_grammar::parse_ignore_errors;
 use mailmap_snapshot::Snapshot;
 use std::alloc::{AllocError, Global};
@@ -17,11 +17,17 @@ fn is_parsed_as_byte(byte: u8) -> bool {
     match byte {
         9..=13 | b' ' | b'#' => are_parsed(&input, &[], &[]),
         b'<' => {
-            let fault = [Err(MissingClosingBracket { line: 1, input: &input })];
+            let fault = [Err(MissingClosingBracket {
+                line: 1,
+                input: &input,
+            })];
             are_parsed(&input, &fault, &fault)
         }
         _ => {
-            let fault = [Err(NoEmail { line: 1, input: &input })];
+            let fault = [Err(NoEmail {
+                line: 1,
+                input: &input,
+            })];
             are_parsed(&input, &fault, &fault)
         }
     }
@@ -33,7 +39,10 @@ fn a_line_may_be_one_byte_or_many_brackets(rt: HostRuntime) {
         assert!(rt; is_parsed_as_byte(byte), "byte {byte}");
     }
     static BRACKETS: [u8; 100_000] = [b'<'; 100_000];
-    let fault = [Err(MissingClosingBracket { line: 1, input: &BRACKETS })];
+    let fault = [Err(MissingClosingBracket {
+        line: 1,
+        input: &BRACKETS,
+    })];
     assert!(rt; are_parsed(&BRACKETS, &fault, &fault));
 }
 
@@ -42,26 +51,121 @@ fn a_line_may_end_anywhere(rt: HostRuntime) {
     const JANE: Item<'static> = Ok(Name(b"Jane", b"a@x"));
     static FRONTS: [Parsed; 21] = [
         Parsed(b"", &[], None),
-        Parsed(b"J", &[Err(NoEmail { line: 1, input: b"J" })], None),
-        Parsed(b"Ja", &[Err(NoEmail { line: 1, input: b"Ja" })], None),
-        Parsed(b"Jan", &[Err(NoEmail { line: 1, input: b"Jan" })], None),
-        Parsed(b"Jane", &[Err(NoEmail { line: 1, input: b"Jane" })], None),
-        Parsed(b"Jane ", &[Err(NoEmail { line: 1, input: b"Jane" })], None),
-        Parsed(b"Jane <", &[Err(MissingClosingBracket { line: 1, input: b"Jane <" })], None),
-        Parsed(b"Jane <a", &[Err(MissingClosingBracket { line: 1, input: b"Jane <a" })], None),
-        Parsed(b"Jane <a@", &[Err(MissingClosingBracket { line: 1, input: b"Jane <a@" })], None),
-        Parsed(b"Jane <a@x", &[Err(MissingClosingBracket { line: 1, input: b"Jane <a@x" })], None),
+        Parsed(
+            b"J",
+            &[Err(NoEmail {
+                line: 1,
+                input: b"J",
+            })],
+            None,
+        ),
+        Parsed(
+            b"Ja",
+            &[Err(NoEmail {
+                line: 1,
+                input: b"Ja",
+            })],
+            None,
+        ),
+        Parsed(
+            b"Jan",
+            &[Err(NoEmail {
+                line: 1,
+                input: b"Jan",
+            })],
+            None,
+        ),
+        Parsed(
+            b"Jane",
+            &[Err(NoEmail {
+                line: 1,
+                input: b"Jane",
+            })],
+            None,
+        ),
+        Parsed(
+            b"Jane ",
+            &[Err(NoEmail {
+                line: 1,
+                input: b"Jane",
+            })],
+            None,
+        ),
+        Parsed(
+            b"Jane <",
+            &[Err(MissingClosingBracket {
+                line: 1,
+                input: b"Jane <",
+            })],
+            None,
+        ),
+        Parsed(
+            b"Jane <a",
+            &[Err(MissingClosingBracket {
+                line: 1,
+                input: b"Jane <a",
+            })],
+            None,
+        ),
+        Parsed(
+            b"Jane <a@",
+            &[Err(MissingClosingBracket {
+                line: 1,
+                input: b"Jane <a@",
+            })],
+            None,
+        ),
+        Parsed(
+            b"Jane <a@x",
+            &[Err(MissingClosingBracket {
+                line: 1,
+                input: b"Jane <a@x",
+            })],
+            None,
+        ),
         Parsed(b"Jane <a@x>", &[JANE], None),
         Parsed(b"Jane <a@x> ", &[JANE], None),
         Parsed(b"Jane <a@x> B", &[JANE], None),
         Parsed(b"Jane <a@x> Bo", &[JANE], None),
         Parsed(b"Jane <a@x> Bob", &[JANE], None),
         Parsed(b"Jane <a@x> Bob ", &[JANE], None),
-        Parsed(b"Jane <a@x> Bob <", &[JANE], Some(&[Err(UnclosedSecond { line: 1, input: b" Bob <" })])),
-        Parsed(b"Jane <a@x> Bob <b", &[JANE], Some(&[Err(UnclosedSecond { line: 1, input: b" Bob <b" })])),
-        Parsed(b"Jane <a@x> Bob <b@", &[JANE], Some(&[Err(UnclosedSecond { line: 1, input: b" Bob <b@" })])),
-        Parsed(b"Jane <a@x> Bob <b@x", &[JANE], Some(&[Err(UnclosedSecond { line: 1, input: b" Bob <b@x" })])),
-        Parsed(b"Jane <a@x> Bob <b@x>", &[Ok(BothOfName(b"Jane", b"a@x", b"Bob", b"b@x"))], None),
+        Parsed(
+            b"Jane <a@x> Bob <",
+            &[JANE],
+            Some(&[Err(UnclosedSecond {
+                line: 1,
+                input: b" Bob <",
+            })]),
+        ),
+        Parsed(
+            b"Jane <a@x> Bob <b",
+            &[JANE],
+            Some(&[Err(UnclosedSecond {
+                line: 1,
+                input: b" Bob <b",
+            })]),
+        ),
+        Parsed(
+            b"Jane <a@x> Bob <b@",
+            &[JANE],
+            Some(&[Err(UnclosedSecond {
+                line: 1,
+                input: b" Bob <b@",
+            })]),
+        ),
+        Parsed(
+            b"Jane <a@x> Bob <b@x",
+            &[JANE],
+            Some(&[Err(UnclosedSecond {
+                line: 1,
+                input: b" Bob <b@x",
+            })]),
+        ),
+        Parsed(
+            b"Jane <a@x> Bob <b@x>",
+            &[Ok(BothOfName(b"Jane", b"a@x", b"Bob", b"b@x"))],
+            None,
+        ),
     ];
     assert_rows(&rt, &FRONTS);
 }
@@ -93,11 +197,7 @@ fn is_merged_as_one(alloc: Global, entries: &[Entry<'_>], one: &Given) -> bool {
         && is_listed(alloc, merged_in_turn(alloc, entries), listed)
 }
 
-fn spelled_lines(
-    alloc: Global,
-    parts: &[&str; 3],
-    ascending: bool,
-) -> Result<Vec<u8>, AllocError> {
+fn spelled_lines(alloc: Global, parts: &[&str; 3], ascending: bool) -> Result<Vec<u8>, AllocError> {
     let mut lines = Vec::new(alloc);
     for i in 0..4096_u32 {
         let number = if ascending { i } else { 4095 - i };
@@ -138,7 +238,11 @@ fn all_spellings_of_a_text_are_one(rt: HostRuntime) {
     static TABLE: [Spelled; 3] = [
         Spelled(["", " <", ">\n"], true, Name(b"4095", b"abcdefghijkl")),
         Spelled(["", " <", ">\n"], false, Name(b"0", b"ABCDEFGHIJKL")),
-        Spelled(["<e", "> ", " <K@x>\n"], true, EmailOfName(b"e4095", b"abcdefghijkl", b"K@x")),
+        Spelled(
+            ["<e", "> ", " <K@x>\n"],
+            true,
+            EmailOfName(b"e4095", b"abcdefghijkl", b"K@x"),
+        ),
     ];
     assert_rows(&rt, &TABLE);
 }

@@ -2,11 +2,11 @@ use crate::given::Given;
 use crate::given::Given::{Both, BothOfName, Email, EmailOfName, Name};
 use crate::listing::are_equal;
 use crate::rows::{Row, Text, assert_rows};
+use mailmap_entries::Entry;
 use mailmap_grammar::lines::Error;
 use mailmap_grammar::lines::Error::{
     EmptyEmail, MissingClosingBracket, NoEmail, NothingToMap, UnclosedSecond,
 };
-use mailmap_entries::Entry;
 use mailmap_grammar::{parse, parse_ignore_errors, parse_strict};
 use mailmap_snapshot::Snapshot;
 use std::alloc::Global;
@@ -64,15 +64,41 @@ fn a_line_has_an_entry_a_fault_or_nothing(rt: HostRuntime) {
     static LINES: [Parsed; 5] = [
         Parsed(b"", &[], None),
         Parsed(b"# c\n\n  Jane <j@x>", &[Ok(Name(b"Jane", b"j@x"))], None),
-        Parsed(b" # c", &[Err(NoEmail { line: 1, input: b"# c" })], None),
-        Parsed(b"# c\n\nplain", &[Err(NoEmail { line: 3, input: b"plain" })], None),
+        Parsed(
+            b" # c",
+            &[Err(NoEmail {
+                line: 1,
+                input: b"# c",
+            })],
+            None,
+        ),
+        Parsed(
+            b"# c\n\nplain",
+            &[Err(NoEmail {
+                line: 3,
+                input: b"plain",
+            })],
+            None,
+        ),
         Parsed(
             b"<a@x>\nJane <a@x\nJane < > <b@x>\nplain",
             &[
-                Err(NothingToMap { line: 1, input: b"<a@x>" }),
-                Err(MissingClosingBracket { line: 2, input: b"Jane <a@x" }),
-                Err(EmptyEmail { line: 3, input: b"Jane < > <b@x>" }),
-                Err(NoEmail { line: 4, input: b"plain" }),
+                Err(NothingToMap {
+                    line: 1,
+                    input: b"<a@x>",
+                }),
+                Err(MissingClosingBracket {
+                    line: 2,
+                    input: b"Jane <a@x",
+                }),
+                Err(EmptyEmail {
+                    line: 3,
+                    input: b"Jane < > <b@x>",
+                }),
+                Err(NoEmail {
+                    line: 4,
+                    input: b"plain",
+                }),
             ],
             None,
         ),
@@ -82,19 +108,38 @@ fn a_line_has_an_entry_a_fault_or_nothing(rt: HostRuntime) {
         Parsed(
             b"Jane <a@x> <b",
             &[Ok(Name(b"Jane", b"a@x"))],
-            Some(&[Err(UnclosedSecond { line: 1, input: b" <b" })]),
+            Some(&[Err(UnclosedSecond {
+                line: 1,
+                input: b" <b",
+            })]),
         ),
         Parsed(
             b"<a@x> <b",
-            &[Err(NothingToMap { line: 1, input: b"<a@x> <b" })],
-            Some(&[Err(UnclosedSecond { line: 1, input: b" <b" })]),
+            &[Err(NothingToMap {
+                line: 1,
+                input: b"<a@x> <b",
+            })],
+            Some(&[Err(UnclosedSecond {
+                line: 1,
+                input: b" <b",
+            })]),
         ),
         Parsed(
             b"a>b <a@x> <b",
             &[Ok(Name(b"a>b", b"a@x"))],
-            Some(&[Err(UnclosedSecond { line: 1, input: b" <b" })]),
+            Some(&[Err(UnclosedSecond {
+                line: 1,
+                input: b" <b",
+            })]),
         ),
-        Parsed(b"Jane < > <b", &[Err(EmptyEmail { line: 1, input: b"Jane < > <b" })], None),
+        Parsed(
+            b"Jane < > <b",
+            &[Err(EmptyEmail {
+                line: 1,
+                input: b"Jane < > <b",
+            })],
+            None,
+        ),
         Parsed(b"Jane <a@x> tail", &[Ok(Name(b"Jane", b"a@x"))], None),
         Parsed(b"Jane <a@x> <>", &[Ok(Both(b"Jane", b"a@x", b""))], None),
         Parsed(b"<n@x> <a@x>", &[Ok(Email(b"n@x", b"a@x"))], None),
@@ -142,9 +187,15 @@ fn a_line_has_an_entry_a_fault_or_nothing(rt: HostRuntime) {
         Parsed(
             b"<a@x>\nJane <j@x>\nplain\nBob <b@x>",
             &[
-                Err(NothingToMap { line: 1, input: b"<a@x>" }),
+                Err(NothingToMap {
+                    line: 1,
+                    input: b"<a@x>",
+                }),
                 Ok(Name(b"Jane", b"j@x")),
-                Err(NoEmail { line: 3, input: b"plain" }),
+                Err(NoEmail {
+                    line: 3,
+                    input: b"plain",
+                }),
                 Ok(Name(b"Bob", b"b@x")),
             ],
             None,
@@ -160,25 +211,44 @@ fn a_line_has_an_entry_a_fault_or_nothing(rt: HostRuntime) {
         ),
     ];
     assert_rows(&rt, &SEVERAL);
-    static STRICT: [Parsed; 1] = [
-        Parsed(
-            b"# c\n<a@x>\nJane <a@x> <b\nplain\n\nJane <a@x\nBob <b@x>",
-            &[
-                Err(NothingToMap { line: 2, input: b"<a@x>" }),
-                Ok(Name(b"Jane", b"a@x")),
-                Err(NoEmail { line: 4, input: b"plain" }),
-                Err(MissingClosingBracket { line: 6, input: b"Jane <a@x" }),
-                Ok(Name(b"Bob", b"b@x")),
-            ],
-            Some(&[
-                Err(NothingToMap { line: 2, input: b"<a@x>" }),
-                Err(UnclosedSecond { line: 3, input: b" <b" }),
-                Err(NoEmail { line: 4, input: b"plain" }),
-                Err(MissingClosingBracket { line: 6, input: b"Jane <a@x" }),
-                Ok(Name(b"Bob", b"b@x")),
-            ]),
-        ),
-    ];
+    static STRICT: [Parsed; 1] = [Parsed(
+        b"# c\n<a@x>\nJane <a@x> <b\nplain\n\nJane <a@x\nBob <b@x>",
+        &[
+            Err(NothingToMap {
+                line: 2,
+                input: b"<a@x>",
+            }),
+            Ok(Name(b"Jane", b"a@x")),
+            Err(NoEmail {
+                line: 4,
+                input: b"plain",
+            }),
+            Err(MissingClosingBracket {
+                line: 6,
+                input: b"Jane <a@x",
+            }),
+            Ok(Name(b"Bob", b"b@x")),
+        ],
+        Some(&[
+            Err(NothingToMap {
+                line: 2,
+                input: b"<a@x>",
+            }),
+            Err(UnclosedSecond {
+                line: 3,
+                input: b" <b",
+            }),
+            Err(NoEmail {
+                line: 4,
+                input: b"plain",
+            }),
+            Err(MissingClosingBracket {
+                line: 6,
+                input: b"Jane <a@x",
+            }),
+            Ok(Name(b"Bob", b"b@x")),
+        ]),
+    )];
     assert_rows(&rt, &STRICT);
 }
 
@@ -196,23 +266,38 @@ fn is_fault(item: Option<Result<Entry<'_>, Error<'_>>>, line: usize, input: &[u8
 fn a_fault_has_a_line_an_input_and_a_text(rt: HostRuntime) {
     static TABLE: [Text<Error<'static>>; 5] = [
         Text(
-            NoEmail { line: 3, input: b"plain" },
+            NoEmail {
+                line: 3,
+                input: b"plain",
+            },
             "Line 3 does not contain an email",
         ),
         Text(
-            MissingClosingBracket { line: 2, input: b"Jane <a@x" },
+            MissingClosingBracket {
+                line: 2,
+                input: b"Jane <a@x",
+            },
             "2: Missing closing bracket '>' in email",
         ),
         Text(
-            EmptyEmail { line: 3, input: b"Jane < > <b@x>" },
+            EmptyEmail {
+                line: 3,
+                input: b"Jane < > <b@x>",
+            },
             "3: Email must not be empty",
         ),
         Text(
-            NothingToMap { line: 1, input: b"<a@x>" },
+            NothingToMap {
+                line: 1,
+                input: b"<a@x>",
+            },
             "1: Emails without a name or email to map to are invalid",
         ),
         Text(
-            UnclosedSecond { line: 1, input: b" <b" },
+            UnclosedSecond {
+                line: 1,
+                input: b" <b",
+            },
             "1: Missing closing bracket '>' in second email",
         ),
     ];

@@ -44,11 +44,7 @@ pub fn merged_in_turn(alloc: Global, entries: &[Entry<'_>]) -> Result<Snapshot, 
 }
 
 /// Whether a snapshot lists these entries.
-pub fn is_listed(
-    alloc: Global,
-    snapshot: Result<Snapshot, AllocError>,
-    listed: &[Given],
-) -> bool {
+pub fn is_listed(alloc: Global, snapshot: Result<Snapshot, AllocError>, listed: &[Given]) -> bool {
     matches!(snapshot, Ok(snapshot) if lists(alloc, &snapshot, listed))
 }
 

@@ -1,9 +1,9 @@
 use crate::given::Given::{Both, BothOfName, Email, EmailOfName, Name};
 use crate::given::{Given, snapshot_of};
 use crate::rows::{Row, assert_rows};
+use mailmap_entries::fold::Steps;
 use mailmap_snapshot::Snapshot;
 use mailmap_snapshot::actor::SignatureRef;
-use mailmap_entries::fold::Steps;
 use mailmap_snapshot::snapshot::ResolvedSignature;
 use std::alloc::{AllocError, Global};
 

@@ -82,7 +82,8 @@ fn joined(alloc: Global, texts: &[Vec<u8>]) -> Result<Vec<u8>, AllocError> {
     Ok(joined)
 }
 
-/// The words from `ØYSTEIN` on compare texts as Unicode has them: letters with marks, in one character or in two, ligatures, wide and small letters, `İ` and `ı`, Hangul in syllables or in letters, digits.
+/// What the model says. Rows compare texts as Unicode has them, too: letters with marks, in one character or in two,
+/// ligatures, wide and small letters, `İ` and `ı`, Hangul in syllables or in letters, digits.
 #[test]
 fn names_have_words_and_marks(rt: HostRuntime) {
     static WORDS: [Said; 37] = [

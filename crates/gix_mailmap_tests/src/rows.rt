@@ -51,7 +51,10 @@ pub fn ascend<T: Ord + Hash>(values: &[T], others: &[T]) -> bool {
 pub fn comes_at<T: Ord + Hash>(value: &T, place: usize, others: &[T]) -> bool {
     for (i, other) in others.iter().enumerate() {
         let is_same = hash_of(value) == hash_of(other);
-        if value.cmp(other) != place.cmp(&i) || (value == other) != (place == i) || place == i && !is_same {
+        if value.cmp(other) != place.cmp(&i)
+            || (value == other) != (place == i)
+            || place == i && !is_same
+        {
             return false;
         }
     }

@@ -1,10 +1,10 @@
 use crate::given::Given::{Both, BothOfName, EmailOfName, Name};
 use crate::given::{Given, snapshot_of};
 use crate::rows::{Row, assert_rows, comes_at};
-use mailmap_snapshot::{Snapshot, actor};
 use mailmap_snapshot::actor::SignatureRef;
 use mailmap_snapshot::date::Time;
 use mailmap_snapshot::snapshot::Signature;
+use mailmap_snapshot::{Snapshot, actor};
 use std::alloc::{AllocError, Global};
 use std::borrow::CowSlice;
 
@@ -72,7 +72,11 @@ fn is_resolved(alloc: Global, cow: Result<Signature<'_>, AllocError>, fields: &F
     }
 }
 
-fn is_cloned(one: &Signature<'_>, copy: Result<Signature<'_>, AllocError>, fields: &Fields) -> bool {
+fn is_cloned(
+    one: &Signature<'_>,
+    copy: Result<Signature<'_>, AllocError>,
+    fields: &Fields,
+) -> bool {
     matches!(copy, Ok(copy) if *one == copy && has_fields(&copy, fields))
 }
 
@@ -89,12 +93,7 @@ fn is_copied(copy: Result<actor::Signature, AllocError>, fields: &Fields) -> boo
 }
 
 /// Whether `try_resolve` finds what `resolve` answers, or nothing if nothing is mapped.
-fn is_found(
-    alloc: Global,
-    snapshot: &Snapshot,
-    asked: SignatureRef<'_>,
-    fields: &Fields,
-) -> bool {
+fn is_found(alloc: Global, snapshot: &Snapshot, asked: SignatureRef<'_>, fields: &Fields) -> bool {
     let is_mapped = fields.0.0 || fields.1.0;
     match snapshot.try_resolve(alloc, asked) {
         Ok(Some(found)) => is_mapped && is_equal(&found, snapshot.resolve(alloc, asked)),
@@ -188,7 +187,12 @@ fn only_mapped_texts_are_owned(rt: HostRuntime) {
 }
 
 /// A name and an email that are borrowed, and a time.
-fn borrowed(name: &'static [u8], email: &'static [u8], seconds: i64, offset: i32) -> Signature<'static> {
+fn borrowed(
+    name: &'static [u8],
+    email: &'static [u8],
+    seconds: i64,
+    offset: i32,
+) -> Signature<'static> {
     Signature {
         name: CowSlice::Borrowed(name),
         email: CowSlice::Borrowed(email),

@@ -79,7 +79,10 @@ fn what_was_read_is_written_and_reads_back(rt: HostRuntime) {
     ];
     assert_rows(&rt, &HELD);
     static ERRORS: [Text<WriteError>; 2] = [
-        Text(WriteError::Unwritable { place: 3 }, "entry 3 cannot be written"),
+        Text(
+            WriteError::Unwritable { place: 3 },
+            "entry 3 cannot be written",
+        ),
         Text(WriteError::Memory(AllocError), "out of memory"),
     ];
     assert_rows(&rt, &ERRORS);
