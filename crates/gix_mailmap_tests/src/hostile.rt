@@ -2,14 +2,12 @@
 use crate::given::Given;
 use crate::given::Given::{BothOfName, EmailOfName, Name};
 use crate::lines::{Item, Parsed, are_parsed};
-use crate::listing::{is_listed, merged_in_turn};
+use crate::listing::{entries_in, is_listed, merged_in_turn};
 use crate::rows::{Row, assert_rows};
 use mailmap_entries::Entry;
 use mailmap_grammar::lines::Error::{MissingClosingBracket, NoEmail, UnclosedSecond};
-use mailmap_grammar::parse_ignore_errors;
 use mailmap_snapshot::Snapshot;
 use std::alloc::{AllocError, Global};
-use std::slice;
 
 /// Whether a line of one byte has a fault, if it is no white space and no comment.
 fn is_parsed_as_byte(byte: u8) -> bool {
@@ -184,17 +182,19 @@ impl Row for Spelled {
 }
 
 fn is_read_as_one(alloc: Global, lines: &[u8], one: &Given) -> bool {
-    let entries: Result<Vec<Entry<'_>>, AllocError> = parse_ignore_errors(lines).collect(alloc);
-    match entries {
+    match entries_in(alloc, lines) {
         Ok(entries) => entries.len() == 4096 && is_merged_as_one(alloc, &entries, one),
         Err(_) => false,
     }
 }
 
 fn is_merged_as_one(alloc: Global, entries: &[Entry<'_>], one: &Given) -> bool {
-    let listed = slice::from_ref(one);
-    is_listed(alloc, Snapshot::new(alloc, entries.iter().copied()), listed)
-        && is_listed(alloc, merged_in_turn(alloc, entries), listed)
+    let listed = [one.entry()];
+    is_listed(
+        alloc,
+        Snapshot::new(alloc, entries.iter().copied()),
+        &listed,
+    ) && is_listed(alloc, merged_in_turn(alloc, entries), &listed)
 }
 
 fn spelled_lines(alloc: Global, parts: &[&str; 3], ascending: bool) -> Result<Vec<u8>, AllocError> {

@@ -1,29 +1,63 @@
-use crate::given::Given::{Both, BothOfName, Email, EmailOfName, Name, Nothing};
-use crate::given::{Given, entries_of, snapshot_of};
+use crate::given::Given::{EmailOfName, Name, Nothing};
+use crate::given::{Given, entries_of};
 use crate::rows::{Row, assert_rows, hash_of};
 use mailmap_entries::Entry;
+use mailmap_grammar::parse_ignore_errors;
 use mailmap_snapshot::Snapshot;
 use std::alloc::{AllocError, Global};
 use std::fmt::Debug;
-use std::slice;
 
-/// Entries that are merged, and the entries that are listed then.
-struct Listed(&'static [Given], &'static [Given]);
+/// A mailmap whose entries are merged, and one whose entries are listed then.
+struct Listed(&'static [u8], &'static [u8]);
 
 impl Row for Listed {
-    /// Some are merged when the snapshot is made and the others later, wherever they are parted; and one by one.
     fn is_right(&self, alloc: Global) -> bool {
-        matches!(entries_of(alloc, self.0), Ok(entries) if are_listed(alloc, &entries, self.1))
+        match entries_in(alloc, self.1) {
+            Ok(listed) => are_listed(alloc, entries_in(alloc, self.0), &listed),
+            Err(_) => false,
+        }
     }
 }
 
-fn are_listed(alloc: Global, entries: &[Entry<'_>], listed: &[Given]) -> bool {
+/// Entries that are merged, and the entries that are listed then.
+struct Merged(&'static [Given], &'static [Given]);
+
+impl Row for Merged {
+    fn is_right(&self, alloc: Global) -> bool {
+        match entries_of(alloc, self.1) {
+            Ok(listed) => are_listed(alloc, entries_of(alloc, self.0), &listed),
+            Err(_) => false,
+        }
+    }
+}
+
+pub fn entries_in(alloc: Global, mailmap: &[u8]) -> Result<Vec<Entry<'_>>, AllocError> {
+    parse_ignore_errors(mailmap).collect(alloc)
+}
+
+/// Whether entries are listed so if some are merged when the snapshot is made and the others later, wherever they are
+/// parted, and if they are merged one by one.
+fn are_listed(
+    alloc: Global,
+    entries: Result<Vec<Entry<'_>>, AllocError>,
+    listed: &[Entry<'_>],
+) -> bool {
+    match entries {
+        Ok(entries) => {
+            are_parted(alloc, &entries, listed)
+                && is_listed(alloc, merged_in_turn(alloc, &entries), listed)
+        }
+        Err(_) => false,
+    }
+}
+
+fn are_parted(alloc: Global, entries: &[Entry<'_>], listed: &[Entry<'_>]) -> bool {
     for at in 0..=entries.len() {
         if !is_listed(alloc, merged_in_two(alloc, entries.split_at(at)), listed) {
             return false;
         }
     }
-    is_listed(alloc, merged_in_turn(alloc, entries), listed)
+    true
 }
 
 fn merged_in_two(
@@ -44,153 +78,86 @@ pub fn merged_in_turn(alloc: Global, entries: &[Entry<'_>]) -> Result<Snapshot, 
 }
 
 /// Whether a snapshot lists these entries.
-pub fn is_listed(alloc: Global, snapshot: Result<Snapshot, AllocError>, listed: &[Given]) -> bool {
+pub fn is_listed(
+    alloc: Global,
+    snapshot: Result<Snapshot, AllocError>,
+    listed: &[Entry<'_>],
+) -> bool {
     matches!(snapshot, Ok(snapshot) if lists(alloc, &snapshot, listed))
 }
 
-fn lists(alloc: Global, snapshot: &Snapshot, listed: &[Given]) -> bool {
-    match snapshot.entries(alloc) {
-        Ok(entries) => {
-            are_given(&entries, listed)
-                && snapshot.len() == listed.len()
-                && snapshot.iter().eq(entries.iter().copied())
-        }
-        Err(_) => false,
-    }
-}
-
-fn are_given(entries: &[Entry<'_>], given: &[Given]) -> bool {
-    for (entry, given) in entries.iter().zip(given) {
-        if *entry != given.entry() {
-            return false;
-        }
-    }
-    entries.len() == given.len()
+fn lists(alloc: Global, snapshot: &Snapshot, listed: &[Entry<'_>]) -> bool {
+    snapshot.len() == listed.len()
+        && snapshot.iter().eq(listed.iter().copied())
+        && matches!(snapshot.entries(alloc), Ok(entries) if entries.as_slice() == listed)
 }
 
 /// By the folded email, and for each email the entry without an old name first, then by the folded old name. Later
 /// entries replace what earlier ones have, whose spelling stays.
 #[test]
 fn merged_entries_are_listed_in_the_order_without_case(rt: HostRuntime) {
-    static SORTED: [Listed; 4] = [
-        Listed(&[], &[]),
+    static LISTED: [Listed; 12] = [
+        Listed(b"", b""),
+        Listed(b"1 <Z@x>\n2 <_@x>\n3 <a@x>", b"2 <_@x>\n3 <a@x>\n1 <Z@x>"),
         Listed(
-            &[Name(b"1", b"Z@x"), Name(b"2", b"_@x"), Name(b"3", b"a@x")],
-            &[Name(b"2", b"_@x"), Name(b"3", b"a@x"), Name(b"1", b"Z@x")],
+            b"<1@y> Zoe <B@x>\n<2@y> _ <b@x>\n<3@y> ann <b@x>\nP <b@x>\nP <a@x>",
+            b"P <a@x>\nP <B@x>\n<2@y> _ <B@x>\n<3@y> ann <B@x>\n<1@y> Zoe <B@x>",
+        ),
+        Listed(b"N1 <A@x>\n<e@x> <a@X>", b"N1 <e@x> <A@x>"),
+        Listed(b"<n@y> Jane <A@x>\nP <a@x>", b"P <A@x>\n<n@y> Jane <A@x>"),
+        Listed(b"P <a@x>\n<n@y> Jane <A@x>", b"P <a@x>\n<n@y> Jane <a@x>"),
+        Listed(
+            b"Q <n1@y> Jane <x@y>\n<n2@y> JANE <X@Y>",
+            b"<n2@y> Jane <x@y>",
         ),
         Listed(
-            &[Name(b"P", b"x@y"), EmailOfName(b"n@y", b"", b"x@y")],
-            &[Name(b"P", b"x@y"), EmailOfName(b"n@y", b"", b"x@y")],
+            b"P <x@y>\nQ <x@y>\n<m@y> JANE <x@Y>",
+            b"Q <x@y>\n<m@y> JANE <x@y>",
         ),
         Listed(
-            &[
-                EmailOfName(b"1@y", b"Zoe", b"B@x"),
-                EmailOfName(b"2@y", b"_", b"b@x"),
-                EmailOfName(b"3@y", b"ann", b"b@x"),
-                Name(b"P", b"b@x"),
-                Name(b"P", b"a@x"),
-            ],
-            &[
-                Name(b"P", b"a@x"),
-                Name(b"P", b"B@x"),
-                EmailOfName(b"2@y", b"_", b"B@x"),
-                EmailOfName(b"3@y", b"ann", b"B@x"),
-                EmailOfName(b"1@y", b"Zoe", b"B@x"),
-            ],
-        ),
-    ];
-    assert_rows(&rt, &SORTED);
-    static MERGED: [Listed; 6] = [
-        Listed(&[Nothing], &[]),
-        Listed(&[Name(b"N", b"a@x"), Nothing], &[Name(b"N", b"a@x")]),
-        Listed(
-            &[Name(b"N1", b"A@x"), Email(b"e@x", b"a@X")],
-            &[Both(b"N1", b"e@x", b"A@x")],
+            b"<n@y> Jane <X@y>\nP <x@y>\nQ <x@y>\n<m@y> JANE <x@Y>\n<e@y> <X@Y>",
+            b"Q <e@y> <X@y>\n<m@y> Jane <X@y>",
         ),
         Listed(
-            &[EmailOfName(b"n@y", b"Jane", b"A@x"), Name(b"P", b"a@x")],
-            &[Name(b"P", b"A@x"), EmailOfName(b"n@y", b"Jane", b"A@x")],
+            b"A <a@x>\n<e1@y> Bob <b@x>\n<e2@y> Jane <b@x>\nC <c@x>\n<e3@y> Zoe <a@x>\n<e4@y> BOB <B@x>",
+            b"A <a@x>\n<e3@y> Zoe <a@x>\n<e4@y> Bob <b@x>\n<e2@y> Jane <b@x>\nC <c@x>",
         ),
-        Listed(
-            &[Name(b"P", b"a@x"), EmailOfName(b"n@y", b"Jane", b"A@x")],
-            &[Name(b"P", b"a@x"), EmailOfName(b"n@y", b"Jane", b"a@x")],
-        ),
-        Listed(
-            &[
-                BothOfName(b"Q", b"n1@y", b"Jane", b"x@y"),
-                EmailOfName(b"n2@y", b"JANE", b"X@Y"),
-            ],
-            &[EmailOfName(b"n2@y", b"Jane", b"x@y")],
-        ),
-    ];
-    assert_rows(&rt, &MERGED);
-    static LONGER: [Listed; 3] = [
-        Listed(
-            &[
-                Name(b"P", b"x@y"),
-                Name(b"Q", b"x@y"),
-                EmailOfName(b"m@y", b"JANE", b"x@Y"),
-            ],
-            &[Name(b"Q", b"x@y"), EmailOfName(b"m@y", b"JANE", b"x@y")],
-        ),
-        Listed(
-            &[
-                EmailOfName(b"n@y", b"Jane", b"X@y"),
-                Name(b"P", b"x@y"),
-                Name(b"Q", b"x@y"),
-                EmailOfName(b"m@y", b"JANE", b"x@Y"),
-                Email(b"e@y", b"X@Y"),
-            ],
-            &[
-                Both(b"Q", b"e@y", b"X@y"),
-                EmailOfName(b"m@y", b"Jane", b"X@y"),
-            ],
-        ),
-        Listed(
-            &[
-                Name(b"A", b"a@x"),
-                EmailOfName(b"e1@y", b"Bob", b"b@x"),
-                EmailOfName(b"e2@y", b"Jane", b"b@x"),
-                Name(b"C", b"c@x"),
-                EmailOfName(b"e3@y", b"Zoe", b"a@x"),
-                EmailOfName(b"e4@y", b"BOB", b"B@x"),
-            ],
-            &[
-                Name(b"A", b"a@x"),
-                EmailOfName(b"e3@y", b"Zoe", b"a@x"),
-                EmailOfName(b"e4@y", b"Bob", b"b@x"),
-                EmailOfName(b"e2@y", b"Jane", b"b@x"),
-                Name(b"C", b"c@x"),
-            ],
-        ),
-    ];
-    assert_rows(&rt, &LONGER);
-    static NAMES: [Listed; 3] = [
         // an email that has names only, and a name that answers as its email does
+        Listed(b"<n@y> Jane <x@y>", b"<n@y> Jane <x@y>"),
         Listed(
-            &[EmailOfName(b"n@y", b"Jane", b"x@y")],
-            &[EmailOfName(b"n@y", b"Jane", b"x@y")],
+            b"<n@y> Jane <x@y>\n<n@y> <x@y>",
+            b"<n@y> <x@y>\n<n@y> Jane <x@y>",
         ),
-        Listed(
-            &[EmailOfName(b"n@y", b"Jane", b"x@y"), Email(b"n@y", b"x@y")],
-            &[Email(b"n@y", b"x@y"), EmailOfName(b"n@y", b"Jane", b"x@y")],
+    ];
+    assert_rows(&rt, &LISTED);
+}
+
+/// Entries that no line can hold, or that map nothing.
+#[test]
+fn any_entries_can_be_merged(rt: HostRuntime) {
+    static MERGED: [Merged; 4] = [
+        Merged(
+            &[Name(b"P", b"x@y"), EmailOfName(b"n@y", b"", b"x@y")],
+            &[Name(b"P", b"x@y"), EmailOfName(b"n@y", b"", b"x@y")],
         ),
-        Listed(
+        Merged(&[Nothing], &[]),
+        Merged(&[Name(b"N", b"a@x"), Nothing], &[Name(b"N", b"a@x")]),
+        Merged(
             &[EmailOfName(b"n@y", b"", b"x@y"), Name(b"P", b"x@y")],
             &[Name(b"P", b"x@y"), EmailOfName(b"n@y", b"", b"x@y")],
         ),
     ];
-    assert_rows(&rt, &NAMES);
+    assert_rows(&rt, &MERGED);
 }
 
-/// Entries of two snapshots, and whether these are equal. They hash alike then, and a copy is equal, too.
-struct Equal(&'static [Given], &'static [Given], bool);
+/// Two mailmaps, and whether their snapshots are equal. They hash alike then, and a copy is equal, too.
+struct Equal(&'static [u8], &'static [u8], bool);
 
 impl Row for Equal {
     fn is_right(&self, alloc: Global) -> bool {
-        match snapshot_of(alloc, self.0) {
+        match Snapshot::from_bytes(alloc, self.0) {
             Ok(snapshot) => {
-                compares(&snapshot, snapshot_of(alloc, self.1), self.2)
+                compares(&snapshot, Snapshot::from_bytes(alloc, self.1), self.2)
                     && compares(&snapshot, snapshot.try_clone(alloc), true)
                     && has_text_of_entries(alloc, &snapshot)
             }
@@ -233,64 +200,33 @@ fn are_texts(one: Result<String, AllocError>, other: Result<String, AllocError>)
 /// Snapshots are equal if what they list is, also in its spelling, whatever came before.
 #[test]
 fn snapshots_are_equal_by_what_they_list(rt: HostRuntime) {
-    const FIRST: Given = EmailOfName(b"n@y", b"Jane", b"X@y");
-    const P: Given = Name(b"P", b"x@y");
-    const Q: Given = Name(b"Q", b"x@y");
-    const NAMED: Given = EmailOfName(b"m@y", b"JANE", b"x@Y");
-    const LISTED: Given = EmailOfName(b"m@y", b"JANE", b"x@y");
-    const LAST: Given = Email(b"e@y", b"X@Y");
-    static EQUAL: [Equal; 3] = [
+    static EQUAL: [Equal; 10] = [
+        Equal(b"N <a@x>\n<e@y> <b@x>", b"<e@y> <b@x>\nN <a@x>", true),
+        Equal(b"N <a@x>", b"Long <a@x>\nN <a@x>", true),
+        Equal(b"N1 <A@x>\n<e@x> <a@X>", b"N1 <e@x> <A@x>", true),
         Equal(
-            &[Name(b"N", b"a@x"), Email(b"e@y", b"b@x")],
-            &[Email(b"e@y", b"b@x"), Name(b"N", b"a@x")],
+            b"<n@y> Jane <X@y>\nP <x@y>\nQ <x@y>\n<m@y> JANE <x@Y>\n<e@y> <X@Y>",
+            b"<n@y> Jane <X@y>\nQ <x@y>\n<m@y> JANE <x@y>\n<e@y> <X@Y>",
             true,
         ),
         Equal(
-            &[Name(b"N", b"a@x")],
-            &[Name(b"Long", b"a@x"), Name(b"N", b"a@x")],
+            b"<n@y> Jane <X@y>\nP <x@y>\nQ <x@y>\n<m@y> JANE <x@Y>\n<e@y> <X@Y>",
+            b"<n@y> Jane <X@y>\nP <x@y>\nQ <x@y>\n<m@y> JANE <x@Y>\n<e@y> <X@Y>\n<n@y> Jane <X@y>\n\
+            P <x@y>\nQ <x@y>\n<m@y> JANE <x@Y>\n<e@y> <X@Y>",
             true,
         ),
+        Equal(b"A <a@x>\nB <b@x>", b"B <b@x>\nA <a@x>", true),
         Equal(
-            &[Name(b"N1", b"A@x"), Email(b"e@x", b"a@X")],
-            &[Both(b"N1", b"e@x", b"A@x")],
-            true,
+            b"<n@y> Jane <A@x>\nP <a@x>",
+            b"P <a@x>\n<n@y> Jane <A@x>",
+            false,
         ),
+        Equal(b"N <a@x>", b"N <A@x>", false),
+        Equal(b"N <a@x>", b"N <a@x>\nN <b@x>", false),
+        // the same answers, but another list
+        Equal(b"<n@y> <x@y>", b"<n@y> <x@y>\n<n@y> Jane <x@y>", false),
     ];
     assert_rows(&rt, &EQUAL);
-    static LATER: [Equal; 2] = [
-        Equal(&[FIRST, P, Q, NAMED, LAST], &[FIRST, Q, LISTED, LAST], true),
-        Equal(
-            &[FIRST, P, Q, NAMED, LAST],
-            &[FIRST, P, Q, NAMED, LAST, FIRST, P, Q, NAMED, LAST],
-            true,
-        ),
-    ];
-    assert_rows(&rt, &LATER);
-    static OTHERS: [Equal; 5] = [
-        Equal(
-            &[Name(b"A", b"a@x"), Name(b"B", b"b@x")],
-            &[Name(b"B", b"b@x"), Name(b"A", b"a@x")],
-            true,
-        ),
-        Equal(
-            &[EmailOfName(b"n@y", b"Jane", b"A@x"), Name(b"P", b"a@x")],
-            &[Name(b"P", b"a@x"), EmailOfName(b"n@y", b"Jane", b"A@x")],
-            false,
-        ),
-        Equal(&[Name(b"N", b"a@x")], &[Name(b"N", b"A@x")], false),
-        Equal(
-            &[Name(b"N", b"a@x")],
-            &[Name(b"N", b"a@x"), Name(b"N", b"b@x")],
-            false,
-        ),
-        // the same answers, but another list
-        Equal(
-            &[Email(b"n@y", b"x@y")],
-            &[Email(b"n@y", b"x@y"), EmailOfName(b"n@y", b"Jane", b"x@y")],
-            false,
-        ),
-    ];
-    assert_rows(&rt, &OTHERS);
     static REPLACED: [Replaced; 1] = [Replaced(Name(b"Long", b"a@x"), Name(b"N", b"a@x"))];
     assert_rows(&rt, &REPLACED);
 }
@@ -326,5 +262,5 @@ fn merged_a_thousand_times(
 fn is_copied(alloc: Global, snapshot: Snapshot, given: &Given) -> bool {
     let copy = snapshot.try_clone(alloc);
     drop(snapshot);
-    is_listed(alloc, copy, slice::from_ref(given))
+    is_listed(alloc, copy, &[given.entry()])
 }

@@ -1,4 +1,4 @@
-use crate::given::Given::{Both, BothOfName, Email, EmailOfName, Name};
+use crate::given::Given::{Email, EmailOfName, Name};
 use crate::given::{Given, snapshot_of};
 use crate::rows::{Row, assert_rows};
 use mailmap_entries::fold::Steps;
@@ -10,39 +10,56 @@ use std::alloc::{AllocError, Global};
 /// The name and the email that are to replace those of a signature.
 type Answer = Option<(Option<&'static [u8]>, Option<&'static [u8]>)>;
 
-/// A name and an email, and the answer to them.
-type Asked = (&'static [u8], &'static [u8], Answer);
-
-/// Entries, and what their snapshot answers.
-struct Looked(&'static [Given], &'static [Asked]);
+/// A mailmap, a name and an email, and the answer to them.
+struct Looked(&'static [u8], &'static [u8], &'static [u8], Answer);
 
 impl Row for Looked {
     fn is_right(&self, alloc: Global) -> bool {
-        matches!(snapshot_of(alloc, self.0), Ok(snapshot) if are_answered(alloc, &snapshot, self.1))
+        let Looked(mailmap, name, email, answer) = self;
+        is_found(
+            alloc,
+            Snapshot::from_bytes(alloc, mailmap),
+            name,
+            email,
+            answer,
+        )
     }
 }
 
-fn are_answered(alloc: Global, snapshot: &Snapshot, table: &[Asked]) -> bool {
-    for asked in table {
-        if !is_answered(alloc, snapshot, asked) {
-            return false;
+/// The same with entries that no line can hold.
+struct LookedUp(&'static [Given], &'static [u8], &'static [u8], Answer);
+
+impl Row for LookedUp {
+    fn is_right(&self, alloc: Global) -> bool {
+        let LookedUp(given, name, email, answer) = self;
+        is_found(alloc, snapshot_of(alloc, given), name, email, answer)
+    }
+}
+
+fn is_found(
+    alloc: Global,
+    snapshot: Result<Snapshot, AllocError>,
+    name: &[u8],
+    email: &[u8],
+    answer: &Answer,
+) -> bool {
+    match snapshot {
+        Ok(snapshot) => {
+            is_answered(&snapshot, name, email, answer)
+                && outlives(&snapshot, name, Vec::from_slice(alloc, email), answer)
         }
+        Err(_) => false,
     }
-    true
 }
 
-/// Whether all lookups have this answer.
-fn is_answered(alloc: Global, snapshot: &Snapshot, asked: &Asked) -> bool {
-    let (name, email, answer) = asked;
-    let signature = SignatureRef {
+fn is_answered(snapshot: &Snapshot, name: &[u8], email: &[u8], answer: &Answer) -> bool {
+    let asked = SignatureRef {
         name,
         email,
         time: "",
     };
-    let counted = snapshot.try_resolve_ref_counted(signature, &mut Steps::new());
-    is_answer(counted, answer)
-        && is_answer(snapshot.try_resolve_ref(signature), answer)
-        && outlives(snapshot, name, Vec::from_slice(alloc, email), answer)
+    let counted = snapshot.try_resolve_ref_counted(asked, &mut Steps::new());
+    is_answer(counted, answer) && is_answer(snapshot.try_resolve_ref(asked), answer)
 }
 
 /// Whether the answer outlives the text that was asked for.
@@ -72,100 +89,116 @@ fn is_answer(found: Option<ResolvedSignature<'_>>, answer: &Answer) -> bool {
 
 #[test]
 fn the_entry_of_the_name_counts_before_that_of_the_email(rt: HostRuntime) {
-    static NAMES: [Looked; 3] = [
-        Looked(&[], &[(b"Bob", b"a@x", None)]),
+    static TABLE: [Looked; 18] = [
+        Looked(b"", b"Bob", b"a@x", None),
         Looked(
-            &[
-                Both(b"Joe R. Developer", b"joe@example.com", b"bugs@example.com"),
-                BothOfName(
-                    b"Jane Doe",
-                    b"jane@example.com",
-                    b"Jane",
-                    b"bugs@example.com",
-                ),
-            ],
-            &[
-                (
-                    b"Bob",
-                    b"bugs@example.com",
-                    Some((Some(b"Joe R. Developer"), Some(b"joe@example.com"))),
-                ),
-                (
-                    b"JANE",
-                    b"Bugs@example.com",
-                    Some((Some(b"Jane Doe"), Some(b"jane@example.com"))),
-                ),
-                (b"Bob", b"nobody@x", None),
-            ],
+            b"Joe R. Developer <joe@example.com> <bugs@example.com>\nJane Doe <jane@example.com> Jane <bugs@example.com>",
+            b"Bob",
+            b"bugs@example.com",
+            Some((Some(b"Joe R. Developer"), Some(b"joe@example.com"))),
+        ),
+        Looked(
+            b"Joe R. Developer <joe@example.com> <bugs@example.com>\nJane Doe <jane@example.com> Jane <bugs@example.com>",
+            b"JANE",
+            b"Bugs@example.com",
+            Some((Some(b"Jane Doe"), Some(b"jane@example.com"))),
+        ),
+        Looked(
+            b"Joe R. Developer <joe@example.com> <bugs@example.com>\nJane Doe <jane@example.com> Jane <bugs@example.com>",
+            b"Bob",
+            b"nobody@x",
+            None,
         ),
         // an email that is spelled otherwise is mapped to the spelling that is kept
+        Looked(b"P <x@y>", b"Bob", b"X@y", Some((Some(b"P"), Some(b"x@y")))),
+        Looked(b"P <x@y>", b"Bob", b"x@y", Some((Some(b"P"), None))),
         Looked(
-            &[Name(b"P", b"x@y")],
-            &[
-                (b"Bob", b"X@y", Some((Some(b"P"), Some(b"x@y")))),
-                (b"Bob", b"x@y", Some((Some(b"P"), None))),
-            ],
+            b"N1 <A@x>\n<e@x> <a@X>",
+            b"Bob",
+            b"a@x",
+            Some((Some(b"N1"), Some(b"e@x"))),
+        ),
+        Looked(
+            b"P <x@y>\n<n@y> Jane <x@y>",
+            b"jane",
+            b"x@y",
+            Some((None, Some(b"n@y"))),
+        ),
+        Looked(
+            b"P <x@y>\n<n@y> Jane <x@y>",
+            b"Bob",
+            b"X@y",
+            Some((Some(b"P"), Some(b"x@y"))),
+        ),
+        Looked(
+            b"P <x@y>\n<n@y> Jane <x@y>",
+            b"Bob",
+            b"x@y",
+            Some((Some(b"P"), None)),
+        ),
+        Looked(
+            b"<n@y> Jane <A@x>\nP <a@x>",
+            b"Bob",
+            b"a@x",
+            Some((Some(b"P"), Some(b"A@x"))),
+        ),
+        Looked(
+            b"P <a@x>\n<n@y> Jane <A@x>",
+            b"Bob",
+            b"a@x",
+            Some((Some(b"P"), None)),
+        ),
+        Looked(
+            b"P <a@x>\n<n@y> Jane <A@x>",
+            b"Bob",
+            b"A@x",
+            Some((Some(b"P"), Some(b"a@x"))),
+        ),
+        Looked(
+            b"<n@y> Jane <x@y>",
+            b"Bob",
+            b"X@y",
+            Some((None, Some(b"x@y"))),
+        ),
+        Looked(b"<n@y> Jane <x@y>", b"Bob", b"x@y", None),
+        Looked(
+            b"Q <n1@y> Jane <x@y>\n<n2@y> JANE <X@Y>",
+            b"Jane",
+            b"x@y",
+            Some((None, Some(b"n2@y"))),
+        ),
+        Looked(
+            b"Q <n1@y> Jane <x@y>\n<n2@y> JANE <X@Y>",
+            b"Bob",
+            b"X@Y",
+            Some((None, Some(b"x@y"))),
+        ),
+        Looked(
+            b"Q <n1@y> Jane <x@y>\n<n2@y> JANE <X@Y>",
+            b"Bob",
+            b"x@y",
+            None,
         ),
     ];
-    assert_rows(&rt, &NAMES);
-    static FIELDS: [Looked; 3] = [
-        Looked(
-            &[Name(b"N1", b"A@x"), Email(b"e@x", b"a@X")],
-            &[(b"Bob", b"a@x", Some((Some(b"N1"), Some(b"e@x"))))],
-        ),
-        Looked(
-            &[Name(b"P", b"x@y"), EmailOfName(b"n@y", b"Jane", b"x@y")],
-            &[
-                (b"jane", b"x@y", Some((None, Some(b"n@y")))),
-                (b"Bob", b"X@y", Some((Some(b"P"), Some(b"x@y")))),
-                (b"Bob", b"x@y", Some((Some(b"P"), None))),
-            ],
-        ),
-        Looked(
-            &[EmailOfName(b"n@y", b"Jane", b"A@x"), Name(b"P", b"a@x")],
-            &[(b"Bob", b"a@x", Some((Some(b"P"), Some(b"A@x"))))],
-        ),
-    ];
-    assert_rows(&rt, &FIELDS);
-    static SPELLINGS: [Looked; 3] = [
-        Looked(
-            &[Name(b"P", b"a@x"), EmailOfName(b"n@y", b"Jane", b"A@x")],
-            &[
-                (b"Bob", b"a@x", Some((Some(b"P"), None))),
-                (b"Bob", b"A@x", Some((Some(b"P"), Some(b"a@x")))),
-            ],
-        ),
-        Looked(
-            &[EmailOfName(b"n@y", b"Jane", b"x@y")],
-            &[
-                (b"Bob", b"X@y", Some((None, Some(b"x@y")))),
-                (b"Bob", b"x@y", None),
-            ],
-        ),
-        Looked(
-            &[
-                BothOfName(b"Q", b"n1@y", b"Jane", b"x@y"),
-                EmailOfName(b"n2@y", b"JANE", b"X@Y"),
-            ],
-            &[
-                (b"Jane", b"x@y", Some((None, Some(b"n2@y")))),
-                (b"Bob", b"X@Y", Some((None, Some(b"x@y")))),
-                (b"Bob", b"x@y", None),
-            ],
-        ),
-    ];
-    assert_rows(&rt, &SPELLINGS);
-    static EMPTY: [Looked; 3] = [
-        // empty texts are texts as others are
-        Looked(&[Name(b"", b"")], &[(b"Bob", b"", Some((Some(b""), None)))]),
-        Looked(
+    assert_rows(&rt, &TABLE);
+}
+
+#[test]
+fn empty_texts_are_texts_as_others_are(rt: HostRuntime) {
+    static TABLE: [LookedUp; 3] = [
+        LookedUp(&[Name(b"", b"")], b"Bob", b"", Some((Some(b""), None))),
+        LookedUp(
             &[Name(b"P", b"x@y"), EmailOfName(b"n@y", b"", b"x@y")],
-            &[(b"", b"x@y", Some((None, Some(b"n@y"))))],
+            b"",
+            b"x@y",
+            Some((None, Some(b"n@y"))),
         ),
-        Looked(
+        LookedUp(
             &[Email(b"", b"x@y")],
-            &[(b"Bob", b"X@y", Some((None, Some(b""))))],
+            b"Bob",
+            b"X@y",
+            Some((None, Some(b""))),
         ),
     ];
-    assert_rows(&rt, &EMPTY);
+    assert_rows(&rt, &TABLE);
 }

@@ -4,42 +4,70 @@ use mailmap_names::names::{Name, login_keys};
 use mailmap_names::words::words_of;
 use std::alloc::{AllocError, Global};
 
-/// What the model says. Lists of marks and keys have `|` between them, and words a space.
-enum Said {
-    /// The words of a name.
-    Words(&'static str, &'static str),
-    /// A name that has none.
-    NoWords(&'static [u8]),
-    /// The marks of a name.
-    Marks(&'static str, &'static str),
-    /// What the first word of a name makes.
-    FirstWords(&'static str, &'static str),
-    /// Whether two names are related, whichever comes first.
-    Related(&'static str, &'static str, bool),
-    /// The login of an email, and its keys.
-    Login(&'static str, &'static str, &'static str),
+/// A name, and its words with spaces between them.
+struct Words(&'static str, &'static str);
+
+impl Row for Words {
+    fn is_right(&self, alloc: Global) -> bool {
+        are_words(alloc, words_of(alloc, self.0.as_bytes()), self.1)
+    }
 }
 
-use Said::{FirstWords, Login, Marks, NoWords, Related, Words};
+/// A name that has none.
+struct NoWords(&'static [u8]);
 
-impl Row for Said {
+impl Row for NoWords {
     fn is_right(&self, alloc: Global) -> bool {
-        match self {
-            Words(name, words) => are_words(alloc, words_of(alloc, name.as_bytes()), words),
-            NoWords(name) => matches!(words_of(alloc, name), Ok(words) if words.is_empty()),
-            Marks(name, marks) => has_marks(alloc, Name::read(alloc, name.as_bytes()), marks),
-            FirstWords(name, words) => {
-                has_first_words(alloc, Name::read(alloc, name.as_bytes()), words)
-            }
-            Related(one, other, related) => {
-                matches!(is_related(alloc, one, other), Ok(found) if found == *related)
-                    && matches!(is_related(alloc, other, one), Ok(found) if found == *related)
-            }
-            Login(email, name, keys) => {
-                login(email.as_bytes()) == name.as_bytes()
-                    && are_joined(alloc, login_keys(alloc, email.as_bytes()), keys)
-            }
+        matches!(words_of(alloc, self.0), Ok(words) if words.is_empty())
+    }
+}
+
+/// A name, and its marks with `|` between them.
+struct Marks(&'static str, &'static str);
+
+impl Row for Marks {
+    fn is_right(&self, alloc: Global) -> bool {
+        has_marks(alloc, Name::read(alloc, self.0.as_bytes()), self.1)
+    }
+}
+
+/// A name, and what its first word makes, with `|` between.
+struct FirstWords(&'static str, &'static str);
+
+impl Row for FirstWords {
+    fn is_right(&self, alloc: Global) -> bool {
+        has_first_words(alloc, Name::read(alloc, self.0.as_bytes()), self.1)
+    }
+}
+
+/// Two names, and whether they are related, whichever comes first.
+struct Related(&'static str, &'static str, bool);
+
+impl Row for Related {
+    fn is_right(&self, alloc: Global) -> bool {
+        let Related(one, other, related) = self;
+        match Name::read(alloc, one.as_bytes()) {
+            Ok(one) => is_related(&one, Name::read(alloc, other.as_bytes()), *related),
+            Err(_) => false,
         }
+    }
+}
+
+fn is_related(one: &Name<'_>, other: Result<Name<'_>, AllocError>, related: bool) -> bool {
+    match other {
+        Ok(other) => one.is_related(&other) == related && other.is_related(one) == related,
+        Err(_) => false,
+    }
+}
+
+/// An email, its login, and the keys of that with `|` between them.
+struct Login(&'static str, &'static str, &'static str);
+
+impl Row for Login {
+    fn is_right(&self, alloc: Global) -> bool {
+        let Login(email, name, keys) = self;
+        login(email.as_bytes()) == name.as_bytes()
+            && are_joined(alloc, login_keys(alloc, email.as_bytes()), keys)
     }
 }
 
@@ -60,13 +88,6 @@ fn has_first_words(alloc: Global, name: Result<Name<'_>, AllocError>, want: &str
     matches!(name, Ok(name) if are_joined(alloc, name.first_words(alloc), want))
 }
 
-fn is_related(alloc: Global, one: &str, other: &str) -> Result<bool, AllocError> {
-    let one = Name::read(alloc, one.as_bytes())?;
-    let other = Name::read(alloc, other.as_bytes())?;
-    let is_related = one.is_related(&other);
-    Ok(is_related)
-}
-
 fn are_joined(alloc: Global, texts: Result<Vec<Vec<u8>>, AllocError>, want: &str) -> bool {
     matches!(texts, Ok(texts) if is_text(joined(alloc, &texts), want.as_bytes()))
 }
@@ -82,11 +103,11 @@ fn joined(alloc: Global, texts: &[Vec<u8>]) -> Result<Vec<u8>, AllocError> {
     Ok(joined)
 }
 
-/// What the model says. Rows compare texts as Unicode has them, too: letters with marks, in one character or in two,
-/// ligatures, wide and small letters, `İ` and `ı`, Hangul in syllables or in letters, digits.
+/// What the model says. Rows compare texts as Unicode has them, too: letters with marks, in one character or in two, ligatures, wide and
+/// small letters, `İ` and `ı`, Hangul in syllables or in letters, digits. The last names aren't UTF-8.
 #[test]
-fn names_have_words_and_marks(rt: HostRuntime) {
-    static WORDS: [Said; 37] = [
+fn names_have_words(rt: HostRuntime) {
+    static WORDS: [Words; 33] = [
         Words("Ann Lee", "ann lee"),
         Words("Lee, Ann", "lee ann"),
         Words("O'Neil-Roe", "o neil roe"),
@@ -120,13 +141,20 @@ fn names_have_words_and_marks(rt: HostRuntime) {
         Words("\u{1112}\u{1161}\u{11ab}", "\u{1112}\u{1161}\u{11ab}"),
         Words("x\u{200d}y\u{ad}z", "x y z"),
         Words("中文", "中文"),
+    ];
+    assert_rows(&rt, &WORDS);
+    static NO_WORDS: [NoWords; 4] = [
         NoWords(b"Ann \xff"),
         NoWords(b"Ann \xc3"),
         NoWords(b"\xed\xa0\x80"),
         NoWords(b"\xc0\xa0"),
     ];
-    assert_rows(&rt, &WORDS);
-    static MARKS: [Said; 24] = [
+    assert_rows(&rt, &NO_WORDS);
+}
+
+#[test]
+fn names_have_marks(rt: HostRuntime) {
+    static MARKS: [Marks; 18] = [
         Marks("Jane Q. Doe", "njane q. doe|wdoe jane|tjaneqdoe"),
         Marks("Doe, Jane", "ndoe, jane|wdoe jane|tdoejane"),
         Marks("J. Doe", "nj. doe|wdoe j|tjdoe"),
@@ -145,6 +173,9 @@ fn names_have_words_and_marks(rt: HostRuntime) {
         Marks("Æ Ø", "nÆ Ø|wae o|taeo"),
         Marks("", ""),
         Marks("...", "n..."),
+    ];
+    assert_rows(&rt, &MARKS);
+    static FIRST: [FirstWords; 6] = [
         FirstWords("Jane Doe", "wjane|tjane"),
         FirstWords("Jane", ""),
         FirstWords("a b", "wa|ta"),
@@ -152,12 +183,12 @@ fn names_have_words_and_marks(rt: HostRuntime) {
         FirstWords("...", ""),
         FirstWords("Jane (work)", ""),
     ];
-    assert_rows(&rt, &MARKS);
+    assert_rows(&rt, &FIRST);
 }
 
 #[test]
 fn names_are_related_and_emails_have_logins(rt: HostRuntime) {
-    static RELATED: [Said; 17] = [
+    static RELATED: [Related; 17] = [
         Related("Jane Doe", "Doe, JANE", true),
         Related("Jane Doe", "JaneDoe", true),
         Related("J. Doe", "Doe", true),
@@ -177,7 +208,7 @@ fn names_are_related_and_emails_have_logins(rt: HostRuntime) {
         Related("Ann Lee Joann", "Jo Leeann", false),
     ];
     assert_rows(&rt, &RELATED);
-    static LOGINS: [Said; 18] = [
+    static LOGINS: [Login; 18] = [
         Login("jane@example.com", "jane", "wjane|tjane"),
         Login("Jane.Doe@example.com", "Jane.Doe", "wdoe jane|tjanedoe"),
         Login("jane+lists+x@example.com", "jane", "wjane|tjane"),

@@ -1,8 +1,6 @@
 //! The binary search, and how many comparisons a lookup takes.
 ghost use Rattle.mailmap_entries.specs.Search.{IsPartitioned};
 
-use crate::given::Given::{EmailOfName, Name};
-use crate::given::{Given, snapshot_of};
 use crate::rows::{Row, assert_rows};
 use mailmap_entries::fold::{Probe, Steps, search};
 use mailmap_grammar::parse_ignore_errors;
@@ -61,13 +59,13 @@ fn steps_of(snapshot: &Snapshot, name: &[u8], email: &[u8]) -> usize {
     steps.count()
 }
 
-/// Entries, a name and an email, and how many comparisons a lookup takes at least and at most.
-struct Counted(&'static [Given], &'static [u8], &'static [u8], usize, usize);
+/// A mailmap, a name and an email, and how many comparisons a lookup takes at least and at most.
+struct Counted(&'static [u8], &'static [u8], &'static [u8], usize, usize);
 
 impl Row for Counted {
     fn is_right(&self, alloc: Global) -> bool {
-        let Counted(given, name, email, least, most) = self;
-        match snapshot_of(alloc, given) {
+        let Counted(mailmap, name, email, least, most) = self;
+        match Snapshot::from_bytes(alloc, mailmap) {
             Ok(snapshot) => {
                 let count = steps_of(&snapshot, name, email);
                 *least <= count && count <= *most
@@ -120,24 +118,18 @@ fn most_steps(snapshot: &Snapshot, lines: &[u8]) -> usize {
 /// also for one that isn't known, and eleven among one more.
 #[test]
 fn a_lookup_compares_at_most_once_for_each_digit(rt: HostRuntime) {
-    const NAMES: [Given; 6] = [
-        Name(b"N", b"a@x"),
-        EmailOfName(b"1@x", b"A", b"b@x"),
-        EmailOfName(b"2@x", b"B", b"b@x"),
-        EmailOfName(b"3@x", b"C", b"b@x"),
-        EmailOfName(b"4@x", b"D", b"b@x"),
-        Name(b"N", b"c@x"),
-    ];
+    const NAMES: &[u8] =
+        b"N <a@x>\n<1@x> A <b@x>\n<2@x> B <b@x>\n<3@x> C <b@x>\n<4@x> D <b@x>\nN <c@x>";
     static TABLE: [Counted; 9] = [
-        Counted(&[], b"n", b"a@x", 0, 0),
-        Counted(&[Name(b"N", b"a@x")], b"n", b"b@x", 1, 1),
-        Counted(&[Name(b"N", b"a@x")], b"n", b"A@x", 1, 1),
-        Counted(&NAMES, b"a", b"b@x", 2, 5),
-        Counted(&NAMES, b"b", b"b@x", 2, 5),
-        Counted(&NAMES, b"c", b"b@x", 2, 5),
-        Counted(&NAMES, b"d", b"b@x", 2, 5),
-        Counted(&NAMES, b"e", b"b@x", 2, 5),
-        Counted(&NAMES, b"a", b"d@x", 1, 2),
+        Counted(b"", b"n", b"a@x", 0, 0),
+        Counted(b"N <a@x>", b"n", b"b@x", 1, 1),
+        Counted(b"N <a@x>", b"n", b"A@x", 1, 1),
+        Counted(NAMES, b"a", b"b@x", 2, 5),
+        Counted(NAMES, b"b", b"b@x", 2, 5),
+        Counted(NAMES, b"c", b"b@x", 2, 5),
+        Counted(NAMES, b"d", b"b@x", 2, 5),
+        Counted(NAMES, b"e", b"b@x", 2, 5),
+        Counted(NAMES, b"a", b"d@x", 1, 2),
     ];
     assert_rows(&rt, &TABLE);
     static MANY: [Many; 2] = [Many(1023, 10), Many(1024, 11)];

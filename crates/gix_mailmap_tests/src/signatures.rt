@@ -1,5 +1,3 @@
-use crate::given::Given::{Both, BothOfName, EmailOfName, Name};
-use crate::given::{Given, snapshot_of};
 use crate::rows::{Row, assert_rows, comes_at};
 use mailmap_snapshot::actor::SignatureRef;
 use mailmap_snapshot::date::Time;
@@ -38,9 +36,9 @@ fn is_text(found: &CowSlice<'_, u8>, (is_owned, text): &Text) -> bool {
     }
 }
 
-/// Entries, a name, an email and a time, and the answer.
+/// A mailmap, a name, an email and a time, and the answer.
 struct Resolved(
-    &'static [Given],
+    &'static [u8],
     (&'static [u8], &'static [u8], &'static str),
     Fields,
 );
@@ -49,7 +47,7 @@ impl Row for Resolved {
     fn is_right(&self, alloc: Global) -> bool {
         let (name, email, time) = self.1;
         let asked = signature(name, email, time);
-        match snapshot_of(alloc, self.0) {
+        match Snapshot::from_bytes(alloc, self.0) {
             Ok(snapshot) => {
                 is_resolved(alloc, snapshot.resolve_cow(alloc, asked), &self.2)
                     && is_copied(snapshot.resolve(alloc, asked), &self.2)
@@ -111,15 +109,8 @@ fn is_equal(one: &actor::Signature, other: Result<actor::Signature, AllocError>)
 fn only_mapped_texts_are_owned(rt: HostRuntime) {
     static RESOLVED: [Resolved; 12] = [
         Resolved(
-            &[
-                Both(b"Joe R. Developer", b"joe@example.com", b"bugs@example.com"),
-                BothOfName(
-                    b"Jane Doe",
-                    b"jane@example.com",
-                    b"Jane",
-                    b"bugs@example.com",
-                ),
-            ],
+            b"Joe R. Developer <joe@example.com> <bugs@example.com>\n\
+            Jane Doe <jane@example.com> Jane <bugs@example.com>",
             (b"Jane", b"bugs@example.com", "1711398853 +0800"),
             (
                 (OWNED, b"Jane Doe"),
@@ -128,58 +119,58 @@ fn only_mapped_texts_are_owned(rt: HostRuntime) {
             ),
         ),
         Resolved(
-            &[Name(b"P", b"x@y")],
+            b"P <x@y>",
             (b"Bob", b"x@y", "5 +0000"),
             ((OWNED, b"P"), (BORROWED, b"x@y"), (5, 0)),
         ),
         Resolved(
-            &[Name(b"P", b"x@y")],
+            b"P <x@y>",
             (b"Bob", b"X@y", "5 +0000"),
             ((OWNED, b"P"), (OWNED, b"x@y"), (5, 0)),
         ),
         Resolved(
-            &[EmailOfName(b"n@y", b"Jane", b"x@y")],
+            b"<n@y> Jane <x@y>",
             (b"Bob", b"X@y", "5 +0000"),
             ((BORROWED, b"Bob"), (OWNED, b"x@y"), (5, 0)),
         ),
         Resolved(
-            &[EmailOfName(b"n@y", b"Jane", b"x@y")],
+            b"<n@y> Jane <x@y>",
             (b"Bob", b"x@y", "5 +0000"),
             ((BORROWED, b"Bob"), (BORROWED, b"x@y"), (5, 0)),
         ),
         Resolved(
-            &[EmailOfName(b"n@y", b"Jane", b"x@y")],
+            b"<n@y> Jane <x@y>",
             (b"Jane", b"x@y", "5 +0000"),
             ((BORROWED, b"Jane"), (OWNED, b"n@y"), (5, 0)),
         ),
         Resolved(
-            &[],
+            b"",
             (b"Bob", b"b@x", "1 +0130"),
             ((BORROWED, b"Bob"), (BORROWED, b"b@x"), (1, 5400)),
         ),
         Resolved(
-            &[],
+            b"",
             (b"Bob", b"b@x", "soon"),
             ((BORROWED, b"Bob"), (BORROWED, b"b@x"), (0, 0)),
         ),
         Resolved(
-            &[Name(b"P", b"x@y")],
+            b"P <x@y>",
             (b"Bob", b"x@y", "9223372036854775808 +0000"),
             ((OWNED, b"P"), (BORROWED, b"x@y"), (0, 0)),
         ),
         Resolved(
-            &[],
+            b"",
             (b"Bob", b"b@x", "1 +130"),
             ((BORROWED, b"Bob"), (BORROWED, b"b@x"), (0, 0)),
         ),
         Resolved(
-            &[],
+            b"",
             (b"Bob", b"b@x", "+1 +0000"),
             ((BORROWED, b"Bob"), (BORROWED, b"b@x"), (0, 0)),
         ),
         Resolved(
-            &[],
-            (b"Bob", b"b@x", "1  +0000"),
+            b"",
+            (b"Bob", b"b@x", "1 +0000"),
             ((BORROWED, b"Bob"), (BORROWED, b"b@x"), (0, 0)),
         ),
     ];
@@ -251,15 +242,31 @@ fn signatures_compare_by_their_bytes(rt: HostRuntime) {
     assert_rows(&rt, &TABLE);
 }
 
-/// Signatures as commits have them are equal by their texts, so two spellings of a time differ.
 #[test]
 fn the_default_borrows_two_empty_texts(rt: HostRuntime) {
     static EMPTY: Fields = ((BORROWED, b""), (BORROWED, b""), (0, 0));
     assert!(rt; has_fields(&Signature::from(signature(b"", b"", "")), &EMPTY));
     assert!(rt; has_fields(&Signature::default(), &EMPTY));
-    let one = signature(b"N", b"a@x", "1 +0000");
-    assert!(rt; one == signature(b"N", b"a@x", "1 +0000"));
-    assert!(rt; one != signature(b"n", b"a@x", "1 +0000"));
-    assert!(rt; one != signature(b"N", b"A@x", "1 +0000"));
-    assert!(rt; one != signature(b"N", b"a@x", "01 +0000"));
+}
+
+/// A name, an email and a time, and whether they make the signature of `N <a@x> 1 +0000`.
+struct Same(&'static [u8], &'static [u8], &'static str, bool);
+
+impl Row for Same {
+    fn is_right(&self, _alloc: Global) -> bool {
+        let one = signature(b"N", b"a@x", "1 +0000");
+        (signature(self.0, self.1, self.2) == one) == self.3
+    }
+}
+
+/// Signatures as commits have them are equal by their texts, so two spellings of a time differ.
+#[test]
+fn times_of_commits_compare_by_their_texts(rt: HostRuntime) {
+    static TABLE: [Same; 4] = [
+        Same(b"N", b"a@x", "1 +0000", true),
+        Same(b"n", b"a@x", "1 +0000", false),
+        Same(b"N", b"A@x", "1 +0000", false),
+        Same(b"N", b"a@x", "01 +0000", false),
+    ];
+    assert_rows(&rt, &TABLE);
 }
