@@ -170,7 +170,7 @@ fn only_mapped_texts_are_owned(rt: HostRuntime) {
         ),
         Resolved(
             b"",
-            (b"Bob", b"b@x", "1 +0000"),
+            (b"Bob", b"b@x", "1  +0000"),
             ((BORROWED, b"Bob"), (BORROWED, b"b@x"), (0, 0)),
         ),
     ];
