@@ -162,8 +162,8 @@ def says_same(one, other):
 
 
 def said_by_effect(mailmaps, names, line):
-    """Findings about the entry of a line: no effect, or a contact that is itself mapped. What is said is said of the
-    line without a byte order mark.
+    """Findings about the entry of a line: no effect, or a contact that is itself mapped. The words are
+    those for the line without a byte order mark.
     """
     entry, bare = entry_of(line.text), is_marked(line)
     taken = entry_of(unmarked(line.text)) if bare else entry

@@ -327,7 +327,7 @@ def entries_of_blocks(blocks):
 
 
 def suggested_blocks(buffers, tallies):
-    """The blocks of all stages. Which emails are shared is asked of the mailmaps alone."""
+    """The blocks of all stages. The mailmaps alone, without any entries of these, decide which emails are shared."""
     histories = histories_of(buffers)
     shared = shared_emails(histories, tallies)
     by_email = list(blocks_of_stage(BY_EMAIL, histories, histories, tallies, shared))

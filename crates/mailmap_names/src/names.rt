@@ -103,7 +103,7 @@ impl<'a> Name<'a> {
         self.telling.binary_search(word).is_ok()
     }
 
-    /// Of a name with two or more words, the two keys that its first word alone would make: `wjane` and `tjane` of
+    /// The two keys that the first word alone would make, if there are two or more words: `wjane` and `tjane` for
     /// `Jane Doe`.
     #[tactic(auto, unfolding(crate::specs::Keys::first_words))]
     pub fn first_words(&self, alloc: Global) -> Result<Vec<Vec<u8>>, AllocError>

@@ -22,6 +22,6 @@ are_seen_alike a b = is_utf8 a && (is_utf8 b && bytes_eq (seen a) (seen b))
 abbrev pub look_alike : Text → Text → Bool
 look_alike a b = not (bytes_eq a b) && are_seen_alike (shortened a) (shortened b)
 
--- what is said of two names after all else
+-- what a finding that shows two names ends with
 unfoldable pub alike_text : Text → Text → Text
 alike_text a b = if look_alike a b then codes " (they look the same)" else []

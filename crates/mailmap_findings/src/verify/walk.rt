@@ -70,7 +70,7 @@ pub fn first_read_otherwise(buffers: &[&[u8]]) -> Option<Position>
     None
 }
 
-/// The findings of a line: a byte order mark, and what is to be said of the line without it.
+/// The findings of a line: a byte order mark, and those of the line without it.
 ///
 /// Contracts see it as the list of the remaining findings.
 #[derive(Drop)]
