@@ -1,18 +1,14 @@
 //! The two modes of the program, reading from any reader and writing to any writer.
-//!
-//! Contracts can't promise that there is memory, or that a reported read or write error is real. So they allow
-//! `Failure::Input` and `Failure::Memory` for any input, and `Failure::Output` for any text. They don't know the bytes
-//! of real files and streams either: clauses about bytes only say something about readers and writers whose bytes are
-//! known, such as those in memory.
-ghost use Rattle.std.specs.Prelude.{◌≡◌, ◌⊎◌, IfErr, IfOk, IsErrOf, IsNone, None, IsSome, OnOk, map};
-ghost use Rattle.std.specs.Io.KnownBytes.{IsAtEnd};
+ghost use Rattle.std.specs.Prelude.{◌≡◌, ◌⊎◌, IfErr, IsNone, None, map};
 ghost use Rattle.mailmap_snapshot.specs.Contacts.{answers, answers_by};
+ghost use Rattle.mailmap_snapshot.specs.Writing.{IsCompacted};
 ghost use Rattle.mailmap_snapshot.proofs.Streams.{answers-append};
 ghost use Rattle.command_line.specs.Answering.{LeavesLines};
 ghost use Rattle.command_line.specs.Failures.{IsOfInput};
-ghost use Rattle.command_line.specs.Leaving.{LeavesText};
-ghost use Rattle.check_command.specs.Run.{file_bytes, AnswersContacts, IsMailmap, LeavesContacts};
+ghost use Rattle.command_line.specs.Printing.{LeavesText};
+ghost use Rattle.check_command.specs.Task.{Leaves, file_bytes};
 
+use crate::task::Mode;
 use command_line::answering::{LineAnswers, answer_lines};
 use command_line::failure::Failure;
 use command_line::streams::{read_input, write_all};
@@ -31,10 +27,8 @@ pub fn run<R: Read, W: Write>(
     input: &mut R,
     output: &mut W,
 ) -> Result<(), Failure>
-    // All of the input is read, and exactly the answers are written. After a failure, the answers to the first lines
-    // are, or a prefix of them.
-    ensures leaves { LeavesContacts (file_bytes files.entry) (R.remaining input.old) (R.remaining input.new)
-        W.contents output.old output.new result }
+    ensures leaves { Leaves Mode.Answer (file_bytes files.entry) R.remaining W.contents input.old input.new
+        output.old output.new result }
     ensures only { IfErr result (λ e. IsOfInput e ⊎ (e ≡ Failure.Memory) ⊎ (e ≡ Failure.Output)) }
 {
     match files {
@@ -86,9 +80,7 @@ fn answer_whole<R: Read, W: Write>(
     input: &mut R,
     output: &mut W,
 ) -> Result<(), Failure>
-    ensures leaves { LeavesText (AnswersContacts None (R.remaining input.old)) W.contents output.old output.new result }
-    ensures reads_all { OnOk result (IsAtEnd (R.remaining input.new)) }
-    ensures reads_first { IsErrOf result Failure.Output → IsAtEnd (R.remaining input.new) }
+    ensures leaves { Leaves Mode.Answer None R.remaining W.contents input.old input.new output.old output.new result }
     ensures only { IfErr result (λ e. IsOfInput e ⊎ (e ≡ Failure.Memory) ⊎ (e ≡ Failure.Output)) }
 {
     let bytes = read_input(alloc, input)?;
@@ -107,29 +99,35 @@ pub fn run_compact<R: Read, W: Write>(
     input: &mut R,
     output: &mut W,
 ) -> Result<(), Failure>
-    // Exactly the mailmap is written, or a prefix of it, or nothing.
-    ensures leaves { LeavesText (IsMailmap (file_bytes files.entry) (R.remaining input.old))
-        W.contents output.old output.new result }
-
-    // Without files, all of the input is read before anything is written; with files, none of it.
-    ensures reads_all { IsNone files.entry → OnOk result (IsAtEnd (R.remaining input.new)) }
-    ensures reads_first { IsNone files.entry → IsErrOf result Failure.Output → IsAtEnd (R.remaining input.new) }
-    ensures reads_nothing { IsSome files.entry → input.new ≡ input.old }
+    ensures leaves { Leaves Mode.Compact (file_bytes files.entry) R.remaining W.contents input.old input.new
+        output.old output.new result }
     ensures input { IfErr result (λ e. IsOfInput e → IsNone files.entry) }
     ensures only { IfErr result (λ e. IsOfInput e ⊎ (e ≡ Failure.Memory) ⊎ (e ≡ Failure.Output)) }
 {
-    let mailmap = match files {
-        Some(buffers) => compact(alloc, buffers)?,
-        None => compact_input(alloc, input)?,
-    };
+    match files {
+        Some(buffers) => write_compact(alloc, buffers, output),
+        None => compact_whole(alloc, input, output),
+    }
+}
+
+fn write_compact<W: Write>(alloc: Global, buffers: &[&[u8]], output: &mut W) -> Result<(), Failure>
+    ensures leaves { LeavesText (IsCompacted (map (λ file. file.now) buffers.now)) W.contents output.old output.new
+        result }
+    ensures only { IfErr result (λ e. (e ≡ Failure.Memory) ⊎ (e ≡ Failure.Output)) }
+{
+    let mailmap = compact(alloc, buffers)?;
     write_all(output, mailmap.as_slice())
 }
 
-fn compact_input<R: Read>(alloc: Global, input: &mut R) -> Result<Vec<u8>, Failure>
-    ensures text { IfOk result (λ text. IsMailmap None (R.remaining input.old) text.items) }
-    ensures end { OnOk result (IsAtEnd (R.remaining input.new)) }
-    ensures err { IfErr result (λ e. IsOfInput e ⊎ (e ≡ Failure.Memory)) }
+// Reads all of the input, and writes it as a compact mailmap.
+fn compact_whole<R: Read, W: Write>(
+    alloc: Global,
+    input: &mut R,
+    output: &mut W,
+) -> Result<(), Failure>
+    ensures leaves { Leaves Mode.Compact None R.remaining W.contents input.old input.new output.old output.new result }
+    ensures only { IfErr result (λ e. IsOfInput e ⊎ (e ≡ Failure.Memory) ⊎ (e ≡ Failure.Output)) }
 {
     let bytes = read_input(alloc, input)?;
-    Ok(compact(alloc, &[bytes.as_slice()])?)
+    write_compact(alloc, &[bytes.as_slice()], output)
 }

@@ -1,11 +1,8 @@
 //! Parses the arguments of `mailmap_check`, and runs what they ask for.
-ghost use Rattle.std.specs.Prelude.{◌≡◌, ◌≢◌, ◌⊎◌, ◌↔◌, [], IfErr, IsErr, IsErrOf, OnOk, drop, map};
-ghost use Rattle.std.specs.Io.KnownBytes.{IsAtEnd};
-ghost use Rattle.command_line.specs.Failures.{IsOfFile};
-ghost use Rattle.command_line.specs.Files.{NamesFile, texts};
-ghost use Rattle.command_line.specs.Leaving.{LeavesText};
-ghost use Rattle.check_command.specs.Run.{IsMailmap, file_bytes};
-ghost use Rattle.check_command.specs.Task.{AsksToCompact, LeavesAnswersBy, OfFiles, some_unless_empty};
+ghost use Rattle.std.specs.Prelude.{◌≡◌, ◌⊎◌, IfErr, IsNone};
+ghost use Rattle.command_line.specs.Failures.{IsOfInput};
+ghost use Rattle.command_line.specs.Files.{texts};
+ghost use Rattle.check_command.specs.Task.{FailsFor, Leaves, LeavesBy, asked, file_bytes};
 
 use crate::run::{run, run_compact};
 use command_line::failure::Failure;
@@ -32,9 +29,7 @@ pub struct Task<'a> {
 ///
 /// `--compact` is an option only as the next one; anywhere else it is a path.
 pub fn task_of(arguments: &[Vec<u8>]) -> Task<'_>
-    ensures compact { (result.mode ≡ Mode.Compact) ↔ AsksToCompact (texts arguments.now) }
-    ensures answer_paths { result.mode ≡ Mode.Answer → result.paths.now ≡ drop 1 arguments.now }
-    ensures compact_paths { result.mode ≡ Mode.Compact → result.paths.now ≡ drop 2 arguments.now }
+    ensures { (result.mode, texts result.paths.now) ≡ asked (texts arguments.now) }
 {
     let mode = Mode::Answer;
     match arguments {
@@ -60,40 +55,32 @@ pub fn perform<F: FileSystem, R: Read, W: Write>(
     input: &mut R,
     output: &mut W,
 ) -> Result<(), Failure>
-    // The output depends on the files if there are any, else on the input.
-    ensures answers { task.entry.mode ≡ Mode.Answer → LeavesAnswersBy (F.at system.now)
-        (texts task.entry.paths.now) (R.remaining input.old) (R.remaining input.new)
-        W.contents output.old output.new result }
-    ensures mailmap { task.entry.mode ≡ Mode.Compact → LeavesText (OfFiles (F.at system.now)
-        (texts task.entry.paths.now) (λ files. IsMailmap files (R.remaining input.old)))
-        W.contents output.old output.new result }
-
-    // All of the input is read if it has the contacts or the mailmap, and nothing of it if it has neither.
-    ensures reads_all { (task.entry.mode ≡ Mode.Answer) ⊎ (task.entry.paths.now ≡ [])
-        → OnOk result (IsAtEnd (R.remaining input.new)) }
-    ensures reads_first { task.entry.paths.now ≡ [] → IsErrOf result Failure.Output → IsAtEnd (R.remaining input.new) }
-    ensures unread { task.entry.mode ≡ Mode.Compact → task.entry.paths.now ≢ [] → input.new ≡ input.old }
-
-    // A file that can't be read is named by its number among the paths, from 1. Then the input isn't read, and nothing
-    // is written. Without files, nothing is written after a failure either, unless writing itself fails.
-    ensures file { IfErr result (NamesFile (F.at system.now) (texts task.entry.paths.now)) }
-    ensures unread_at_files { IfErr result (λ e. IsOfFile e → input.new ≡ input.old) }
-    ensures silent_at_files { IfErr result (λ e. IsOfFile e → output.new ≡ output.old) }
-    ensures silent { task.entry.paths.now ≡ [] → IsErr result → ¬ IsErrOf result Failure.Output
-        → output.new ≡ output.old }
+    ensures leaves { LeavesBy (F.at system.now) task.entry.mode (texts task.entry.paths.now) R.remaining W.contents
+        input.old input.new output.old output.new result }
+    ensures fails { IfErr result (FailsFor (F.at system.now) task.entry.mode (texts task.entry.paths.now)) }
 {
+    if task.paths.is_empty() {
+        return run_mode(alloc, task.mode, None, input, output);
+    }
     let contents = read_files(system, alloc, task.paths)?;
     let buffers = list_of(alloc, contents.as_slice())?;
-    let files = given(buffers.as_slice());
-    match task.mode {
+    run_mode(alloc, task.mode, Some(buffers.as_slice()), input, output)
+}
+
+fn run_mode<R: Read, W: Write>(
+    alloc: Global,
+    mode: Mode,
+    files: Option<&[&[u8]]>,
+    input: &mut R,
+    output: &mut W,
+) -> Result<(), Failure>
+    ensures leaves { Leaves mode (file_bytes files.entry) R.remaining W.contents input.old input.new
+        output.old output.new result }
+    ensures input { IfErr result (λ e. IsOfInput e → (mode ≡ Mode.Answer) ⊎ IsNone files.entry) }
+    ensures only { IfErr result (λ e. IsOfInput e ⊎ (e ≡ Failure.Memory) ⊎ (e ≡ Failure.Output)) }
+{
+    match mode {
         Mode::Answer => run(alloc, files, input, output),
         Mode::Compact => run_compact(alloc, files, input, output),
     }
-}
-
-// `None` if there are no files, so that standard input is read.
-fn given<'a>(buffers: &'a [&'a [u8]]) -> Option<&'a [&'a [u8]]>
-    ensures { file_bytes result ≡ some_unless_empty (map (λ buffer. buffer.now) buffers.now) }
-{
-    (!buffers.is_empty()).then_some(buffers)
 }

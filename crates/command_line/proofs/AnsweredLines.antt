@@ -3,12 +3,11 @@ use Rattle.std.proofs.Common.{◌≡◌, ◌++◌, ◌∙◌, ℕ, [], Option, N
 use Rattle.std.specs.Prelude.{IsOkUnless}
 use Rattle.std.specs.Io.KnownBytes.{Appends, Consumes, IsAtEnd, Keeps}
 use Rattle.std.proofs.KnownBytes.{Appends-nil, Appends-trans, Consumes-kept, Consumes-nil, Consumes-trans}
-use Rattle.std.specs.declared.io.ErrorKind.{ErrorKind}
 use Rattle.mailmap_entries.specs.Folding.{Text}
 use Rattle.mailmap_grammar.specs.LineParts.{AnswersFront, AreInOrder, HasAnswered}
 use Rattle.mailmap_grammar.proofs.LineParts.{front_more, front_none, more_answered, nothing_answered}
 use Rattle.command_line.specs.Answering.{AnswersAll, LeavesLines, StopsIn}
-use Rattle.command_line.specs.Failures.{Failure, Input, Memory, Output}
+use Rattle.command_line.specs.Failures.{Failure, Input, IsOfInput, Memory, Output}
 use Rattle.command_line.specs.Printing.{PrintsFront}
 use Rattle.command_line.proofs.Printed.{Appends-both, Appends-longer}
 use Rattle.command_line.proofs.Reading.{all_given}
@@ -90,9 +89,9 @@ module _ (answers : Text → Text) (in_order : AreInOrder answers) where
       part_failed _ stops = absurd stops
 
     -- a read fails
-    pub input_failed : {T : Type 0} (later : Option Text) (cause : ErrorKind) → Keeps now later
-        → LeavesLines {T = T} answers old later before between (Err (Input cause))
-    input_failed later cause kept =
+    pub input_failed : {T : Type 0} (later : Option Text) (e : Failure) → IsOfInput e → Keeps now later
+        → LeavesLines {T = T} answers old later before between (Err e)
+    input_failed later (Input cause) is kept =
         let read = subst (Consumes old later) h.answered.front.bytes_are (Consumes-kept old now later h.read h.consumed kept) in
         record {
           prints = tt;
@@ -105,6 +104,7 @@ module _ (answers : Text → Text) (in_order : AreInOrder answers) where
           );
           memory_fails = λ is. cc;
         }
+    input_failed later _ is kept = absurd is
 
     -- memory runs out between two parts
     pub memory_failed : {T : Type 0} (later : Option Text) → Consumes now later []

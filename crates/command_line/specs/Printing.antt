@@ -1,6 +1,8 @@
 -- Output that is written, in full or in part.
-use Rattle.std.specs.Prelude.{◌≡◌, ◌++◌, ℕ, List, OnErr, OnOk, Option, Result, take}
-use Rattle.std.specs.Io.KnownBytes.{Appends}
+use Rattle.std.specs.Prelude.{◌≡◌, ◌++◌, ℕ, List, IfSome, OnErr, OnOk, Option, Result, take}
+use Rattle.std.specs.Io.KnownBytes.{Appends, IsAtEnd}
+use Rattle.std.specs.Result.{IsErr, IsErrOf}
+use Rattle.command_line.specs.Failures.{Failure, Output}
 
 -- the output has grown by a prefix of the text
 abbrev pub AppendsFront : Option (List ℕ) → Option (List ℕ) → List ℕ → Type 0
@@ -25,3 +27,21 @@ pub record IsUnderway (text : List ℕ) (old new : Option (List ℕ)) (held : Li
   pub written : List ℕ
   pub appended : Appends old new written
   pub whole : text ≡ written ++ held
+
+-- ---- runs that write one text at their end
+
+-- The text is made of all of the input; if that is unknown, of some bytes.
+abbrev pub FromInput : (List ℕ → List ℕ → Type 0) → Option (List ℕ) → List ℕ → Type 0
+FromInput IsMade input text = (bytes : List ℕ) × IfSome input (λ known. bytes ≡ known) × IsMade bytes text
+
+-- all of the text is written, or a prefix if writing fails, and after any other failure nothing
+pub record LeavesText {W T : Type 0} (IsText : List ℕ → Type 0) (contents : W → Option (List ℕ))
+    (old new : W) (result : Result T Failure) : Type 0 where
+  pub prints : OnOk result (Prints IsText (contents old) (contents new))
+  pub breaks_off : IsErrOf result Output → PrintsFront IsText (contents old) (contents new)
+  pub silent : IsErr result → ¬ IsErrOf result Output → new ≡ old
+
+-- all of the input is read before anything is written
+pub record ReadsAll {T : Type 0} (left : Option (List ℕ)) (result : Result T Failure) : Type 0 where
+  pub all : OnOk result (IsAtEnd left)
+  pub first : IsErrOf result Output → IsAtEnd left

@@ -7,9 +7,9 @@ ghost use Rattle.command_line.specs.Answering.{LeavesLines, StopsIn};
 ghost use Rattle.command_line.specs.Failures.{IsOfInput};
 
 use crate::failure::Failure;
-use crate::streams::{PART, flush, read_part, write_all, write_unflushed};
+use crate::streams::{PART, endless, flush, read_part, write_all, write_unflushed};
 use std::alloc::{AllocError, Global};
-use std::io::{ErrorKind, Read, Write};
+use std::io::{Read, Write};
 
 // Answers are written once they are this long, even if a part has more lines.
 const ENOUGH: usize = 65536;
@@ -63,10 +63,7 @@ pub fn answer_lines<A: LineAnswers, R: Read, W: Write>(
     answer_part(answerer, start, &mut text, output)?;
     let mut part = [0; PART];
     for _ in 0..u64::MAX {
-        let count = match read_part(input, &mut part) {
-            Ok(count) => count,
-            Err(cause) => return Err(Failure::Input { cause }),
-        };
+        let count = read_part(input, &mut part)?;
         if count == 0 {
             text.clear();
             answerer.finish(&mut text)?;
@@ -74,10 +71,7 @@ pub fn answer_lines<A: LineAnswers, R: Read, W: Write>(
         }
         answer_part(answerer, &part[..count], &mut text, output)?;
     }
-    // Not reached: no input has so many reads.
-    Err(Failure::Input {
-        cause: ErrorKind::Other,
-    })
+    Err(endless())
 }
 
 // Writes the answers to all lines that end in a part; nothing, not even by flushing, if it is empty. `text` is a buffer

@@ -41,22 +41,32 @@ pub fn read_to_end<R: Read>(alloc: Global, reader: &mut R) -> Result<Vec<u8>, Er
 /// Reads into the front of a buffer, and returns how many bytes. If the buffer isn't empty, 0 means the end.
 ///
 /// Interrupted reads are repeated. On an error nothing was read.
-pub fn read_part<R: Read>(reader: &mut R, buffer: &mut [u8]) -> Result<usize, ErrorKind>
+pub fn read_part<R: Read>(reader: &mut R, buffer: &mut [u8]) -> Result<usize, Failure>
     ensures within { IfOk result (λ count. count ≤ length buffer.new) }
     ensures part { IfOk result (λ count. Consumes (R.remaining reader.old) (R.remaining reader.new)
         (take count buffer.new)) }
     ensures end { IfOk result (λ count. count ≡ 0 → 0 < length buffer.old → IsAtEnd (R.remaining reader.new)) }
     ensures err { OnErr result (Keeps (R.remaining reader.old) (R.remaining reader.new)) }
-    ensures repeated { IfErr result (λ cause. cause ≢ ErrorKind.Interrupted) }
+    ensures only { IfErr result IsOfInput }
+    ensures repeated { ¬ IsErrOf result (Failure.Input ErrorKind.Interrupted) }
 {
     for _ in 0..u64::MAX {
         match reader.read(buffer) {
             Ok(count) => return Ok(count),
             Err(e) if e.kind() == ErrorKind::Interrupted => {}
-            Err(e) => return Err(e.kind()),
+            Err(e) => return Err(Failure::Input { cause: e.kind() }),
         }
     }
-    Err(ErrorKind::Other)
+    Err(endless())
+}
+
+/// The failure after more reads than any input has. Loops over reads are bounded, since they have to end.
+pub fn endless() -> Failure
+    ensures { result ≡ Failure.Input ErrorKind.Other }
+{
+    Failure::Input {
+        cause: ErrorKind::Other,
+    }
 }
 
 /// Writes all of a text, and flushes.

@@ -1,5 +1,5 @@
 -- git log's own format, of which the first line is that of a commit.
-use Rattle.std.specs.Prelude.{◌==◌, ◌&&◌, ◌||◌, ℕ, Bool, true, false, if◌then◌else◌, nat_le, List, [], ◌∷◌, codes, drop, length, take}
+use Rattle.std.specs.Prelude.{◌≡◌, ◌==◌, ◌&&◌, ◌||◌, ℕ, Bool, true, if◌then◌else◌, nat_le, List, [], ◌∷◌, IfSome, Option, codes, drop, length, take}
 use Rattle.std.specs.Char.{is_ascii_hexdigit}
 use Rattle.std.specs.List.{list_all, list_any}
 use Rattle.std.specs.Str.{bytes_eq}
@@ -29,3 +29,7 @@ is_commit_line line = nat_le 7 (length line) && bytes_eq (take 7 line) (codes "c
 
 abbrev pub is_git_log : List ℕ → Bool
 is_git_log text = is_commit_line (first_line text)
+
+-- whether the input, if it is known, is git log's own format
+abbrev pub IsLog : Option (List ℕ) → Bool → Type 0
+IsLog input is_log = IfSome input (λ bytes. is_git_log bytes ≡ is_log)

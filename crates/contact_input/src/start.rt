@@ -1,24 +1,24 @@
 //! Reads the start of contacts, and tells git log's own format from it.
-ghost use Rattle.std.specs.Prelude.{◌≡◌, ◌⊎◌, ◌||◌, IfErr, IfOk, IfSome, IsErrOf, List, ℕ, false, true};
+ghost use Rattle.std.specs.Prelude.{◌≡◌, ◌⊎◌, ◌||◌, IfErr, IfOk, IsErrOf, List, OnOk, ℕ, false, true};
 ghost use Rattle.std.specs.Char.{is_ascii_hexdigit};
 ghost use Rattle.std.specs.Io.KnownBytes.{Consumes, IsAtEnd};
 ghost use Rattle.std.specs.List.{list_all};
 ghost use Rattle.mailmap_grammar.specs.Lines.{HoldsNo};
 ghost use Rattle.command_line.specs.Failures.{IsOfInput};
-ghost use Rattle.contact_input.specs.GitLog.{begins_with_hash, ends_word, first_line, has_feed, is_commit_line, is_git_log};
+ghost use Rattle.contact_input.specs.GitLog.{IsLog, begins_with_hash, ends_word, first_line, has_feed, is_commit_line, is_git_log};
 
 use bstr::ByteSlice;
 use command_line::failure::Failure;
-use command_line::streams::{PART, read_part};
+use command_line::streams::{PART, endless, read_part};
 use std::alloc::Global;
-use std::io::{ErrorKind, Read};
+use std::io::Read;
 
 /// Reads the start of contacts, with at least the first line if there is one. Fails if that is a commit as `git log`
 /// prints it: then each line that has a contact says something else before it, and no line is right.
 pub fn read_start<R: Read>(alloc: Global, input: &mut R) -> Result<Vec<u8>, Failure>
     ensures reads { IfOk result (λ start. Consumes (R.remaining input.old) (R.remaining input.new) start.items) }
-    ensures contacts { IfOk result (λ start. IfSome (R.remaining input.old) (λ bytes. is_git_log bytes ≡ false)) }
-    ensures git_log { IsErrOf result Failure.GitLog → IfSome (R.remaining input.old) (λ bytes. is_git_log bytes ≡ true) }
+    ensures contacts { OnOk result (IsLog (R.remaining input.old) false) }
+    ensures git_log { IsErrOf result Failure.GitLog → IsLog (R.remaining input.old) true }
     ensures breaks_off { IfErr result (λ e. IsOfInput e → (read : List ℕ)
         × Consumes (R.remaining input.old) (R.remaining input.new) read × HoldsNo 10 read) }
     ensures only { IfErr result (λ e. IsOfInput e ⊎ (e ≡ Failure.Memory) ⊎ (e ≡ Failure.GitLog)) }
@@ -41,10 +41,7 @@ fn read_first_line<R: Read>(alloc: Global, input: &mut R) -> Result<Vec<u8>, Fai
     let mut start = Vec::new(alloc);
     let mut part = [0; PART];
     for _ in 0..u64::MAX {
-        let count = match read_part(input, &mut part) {
-            Ok(count) => count,
-            Err(cause) => return Err(Failure::Input { cause }),
-        };
+        let count = read_part(input, &mut part)?;
         if count == 0 {
             return Ok(start);
         }
@@ -53,10 +50,7 @@ fn read_first_line<R: Read>(alloc: Global, input: &mut R) -> Result<Vec<u8>, Fai
             return Ok(start);
         }
     }
-    // Not reached: no input has so many reads.
-    Err(Failure::Input {
-        cause: ErrorKind::Other,
-    })
+    Err(endless())
 }
 
 fn is_git_log(text: &[u8]) -> bool

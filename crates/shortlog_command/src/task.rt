@@ -1,12 +1,11 @@
 //! Parses the arguments of `mailmap_shortlog`, and runs what they ask for.
-ghost use Rattle.std.specs.Prelude.{◌≡◌, ◌⊎◌, IfErr, IfOk, IsErrOf, IsFalse, IsTrue, Ok, OnOk, drop, false};
-ghost use Rattle.std.specs.Io.KnownBytes.{IsAtEnd};
+ghost use Rattle.std.specs.Prelude.{◌≡◌, ◌⊎◌, IfErr, IfOk, Ok, drop};
 ghost use Rattle.std.specs.List.{list_all};
 ghost use Rattle.command_line.specs.Failures.{IsOfFile};
 ghost use Rattle.command_line.specs.Files.{texts};
-ghost use Rattle.command_line.specs.Leaving.{LeavesText};
-ghost use Rattle.shortlog_command.specs.Task.{AreMailmaps, FailsFor, IsAnswer, IsLog, IsSkipped, NamesMailmap, asked, asked_of};
-ghost use Rattle.shortlog_command.specs.Task.{counts_contacts, is_option, no_options, options_with, skipped_line, skipped_of, task};
+ghost use Rattle.command_line.specs.Printing.{LeavesText};
+ghost use Rattle.shortlog_command.specs.Task.{AreMailmaps, FailsFor, IsAnswer, IsSkipped, NamesMailmap, Reads, asked, asked_of};
+ghost use Rattle.shortlog_command.specs.Task.{is_option, no_options, options_with, skipped_line, skipped_of};
 
 use crate::shortlog::print_shortlog;
 use command_line::VERSION;
@@ -115,7 +114,7 @@ fn read_options(arguments: &[Vec<u8>]) -> Result<Task<'_>, UnknownOption<'_>>
 }
 
 fn task_for(mode: Mode, paths: &[Vec<u8>]) -> Task<'_>
-    ensures { asked_of (Ok result) ≡ task mode (texts paths.now) }
+    ensures { asked_of (Ok result) ≡ Ok (mode, texts paths.now) }
 {
     Task { mode, paths }
 }
@@ -150,20 +149,8 @@ pub fn perform<F: FileSystem, R: Read, W: Write>(
     // Exactly the answer is written; if writing fails, a prefix of it, and after any other failure nothing.
     ensures leaves { LeavesText (IsAnswer (F.at system.now) (R.remaining input.old) task.entry.mode
         (texts task.entry.paths.now)) W.contents output.old output.new result }
-
-    // For a shortlog, all of the input is read before anything is written; for the other tasks, none of it, and none if
-    // a mailmap can't be read.
-    ensures reads_all { IsTrue (counts_contacts task.entry.mode) → OnOk result (IsAtEnd (R.remaining input.new)) }
-    ensures reads_first { IsTrue (counts_contacts task.entry.mode) → IsErrOf result Failure.Output
-        → IsAtEnd (R.remaining input.new) }
-    ensures unread { IsFalse (counts_contacts task.entry.mode) → input.new ≡ input.old }
-    ensures unread_at_files { IfErr result (λ e. IsOfFile e → input.new ≡ input.old) }
-
-    // Which lines weren't counted. Contacts in git log's own format are refused.
+    ensures reads { Reads task.entry.mode R.remaining input.old input.new result }
     ensures skipped { IfOk result (IsSkipped (R.remaining input.old) task.entry.mode) }
-    ensures refuses { OnOk result (IsTrue (counts_contacts task.entry.mode) → IsLog (R.remaining input.old) false) }
-
-    // Which tasks can fail in which way. A file that can't be read is named by its number among the paths.
     ensures fails { IfErr result (FailsFor (F.at system.now) (R.remaining input.old) task.entry.mode
         (texts task.entry.paths.now)) }
 {
@@ -182,14 +169,7 @@ pub fn perform<F: FileSystem, R: Read, W: Write>(
             let list = list_of(alloc, mailmaps.as_slice())?;
             let buffers = list.as_slice();
             let contacts = count_contacts(alloc, input)?;
-            print_shortlog(
-                alloc,
-                buffers,
-                &contacts,
-                options.by_count,
-                options.with_email,
-                output,
-            )?;
+            print_shortlog(alloc, buffers, &contacts, options, output)?;
             Ok(skipped_of(&contacts))
         }
     }

@@ -1,4 +1,4 @@
-use Rattle.std.proofs.Common.{rules, ◌≡◌, ◌∙◌, ap, false, sym, true}
+use Rattle.std.proofs.Common.{rules, ◌≡◌, false, true}
 use Rattle.contact_input.specs.GitLog.{is_commit_line, is_git_log}
 use Rattle.contact_input.proofs.GitLog.{line_of_all}
 use Rattle.contact_input.proofs.start.read_start.Goals as goal
