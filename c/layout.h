@@ -42,7 +42,12 @@ SIZE(gix_mailmap_place, 16);
 OFFSET(gix_mailmap_place, start, 0);
 OFFSET(gix_mailmap_place, len, 8);
 
-SIZE(gix_mailmap_notice, 96);
+SIZE(gix_mailmap_mention, 40);
+OFFSET(gix_mailmap_mention, name, 0);
+OFFSET(gix_mailmap_mention, email, 16);
+OFFSET(gix_mailmap_mention, count, 32);
+
+SIZE(gix_mailmap_notice, 176);
 OFFSET(gix_mailmap_notice, line, 0);
 OFFSET(gix_mailmap_notice, other_line, 8);
 OFFSET(gix_mailmap_notice, file, 16);
@@ -50,6 +55,8 @@ OFFSET(gix_mailmap_notice, level, 32);
 OFFSET(gix_mailmap_notice, kind, 48);
 OFFSET(gix_mailmap_notice, message, 64);
 OFFSET(gix_mailmap_notice, other_file, 80);
+OFFSET(gix_mailmap_notice, named, 96);
+OFFSET(gix_mailmap_notice, beside, 136);
 
 SIZE(gix_mailmap_cursor, 16);
 OFFSET(gix_mailmap_cursor, start, 0);

@@ -147,10 +147,12 @@ typedef struct gix_mailmap_position {
     size_t line;
 } gix_mailmap_position;
 
-/* How findings are written: as lines, as compilers print them, or as objects of JSON, one on each line. */
+/* How findings are written: as lines, as compilers print them, or one on each line as objects of JSON, or as
+ * annotations of GitHub. */
 typedef enum gix_mailmap_format {
     GIX_MAILMAP_FORMAT_GCC = 0,
-    GIX_MAILMAP_FORMAT_JSON = 1
+    GIX_MAILMAP_FORMAT_JSON = 1,
+    GIX_MAILMAP_FORMAT_GITHUB = 2
 } gix_mailmap_format;
 
 /* A text in a longer one: the offset at which it begins, counted from 0, and its length. */
@@ -159,10 +161,19 @@ typedef struct gix_mailmap_place {
     size_t len;
 } gix_mailmap_place;
 
+/* A name and an email that a message has, and a number that it has, mostly how often they come. What it doesn't have is
+ * empty, or 0. */
+typedef struct gix_mailmap_mention {
+    gix_mailmap_place name;
+    gix_mailmap_place email;
+    size_t count;
+} gix_mailmap_mention;
+
 /* A finding in mailmaps or contacts, in words: the number of its line, counted from 1, and the places of its texts in a
  * buffer of texts: the name of its file, its level, which is `error`, `warning` or `note`, its kind by the name that
  * mailmap_verify prints, such as `same-email`, and what is said. `other_line` and `other_file` are the other line that
- * the message refers to, the first one if there are two; without one they are 0 and empty. */
+ * the message refers to, the first one if there are two; without one they are 0 and empty. `named` is what the message
+ * names, and `beside` what it names second, as in the members of JSON; texts that the message cuts are whole there. */
 typedef struct gix_mailmap_notice {
     size_t line;
     size_t other_line;
@@ -171,6 +182,8 @@ typedef struct gix_mailmap_notice {
     gix_mailmap_place kind;
     gix_mailmap_place message;
     gix_mailmap_place other_file;
+    gix_mailmap_mention named;
+    gix_mailmap_mention beside;
 } gix_mailmap_notice;
 
 /* How far gix_mailmap_parse has read: the offset at which the next line begins, and how many lines come before it. */
@@ -334,8 +347,9 @@ gix_mailmap_status gix_mailmap_verify(const char *mailmap, size_t mailmap_len,
 /* Writes what is wrong with some mailmaps as text, as mailmap_verify prints it: a line for each finding, such as
  * `NAME:3: warning: no effect: OTHER:7 says the same [no-effect]`. The mailmaps are read one after another, as if they
  * were one: a line may have no effect beside a line of another mailmap. Control bytes are shown as `\x1b`, C1 control
- * characters and those of the general categories Cf, Zl and Zp as `\u202e` or `\U000e0001`. Names, emails and ignored
- * texts of more than 256 bytes are cut. `count` is the number of mailmaps. `needed` is the length of the text, and 0 on OUT_OF_MEMORY.
+ * characters and those of the general categories Cf, Zl and Zp as `\u202e` or `\U000e0001`, and `##[`, which GitHub
+ * takes for a command, as `##\x5b`. Names, emails and ignored texts of more than 256 bytes are cut. `count` is the
+ * number of mailmaps. `needed` is the length of the text, and 0 on OUT_OF_MEMORY.
  * OK; TOO_SHORT; OUT_OF_MEMORY. */
 gix_mailmap_status gix_mailmap_report(const gix_mailmap_named *mailmaps, size_t count, char *GIX_MAILMAP_RESTRICT out,
                                       size_t out_len, size_t *GIX_MAILMAP_RESTRICT needed)
@@ -350,10 +364,16 @@ gix_mailmap_status gix_mailmap_report(const gix_mailmap_named *mailmaps, size_t 
  *     history:7: warning: jane <JANE@x> (2) has the email of Jane Doe <jane@x> (9) [same-email]
  *     history:9: warning: git answers Jane Doe <JANE@x> [git-answers]
  *
- * As JSON, a finding has the members `file`, `line`, `level`, `kind` and `message`, and `at`, with a `file` and a
- * `line`, if the message refers to another line. A text is `{"text": ".."}`, or `{"bytes": ".."}` in Base64 if it isn't
- * UTF-8; only what JSON needs is escaped. Later versions may write more members. `needed` is the length of the text, and
- * 0 on OUT_OF_MEMORY.
+ * As JSON, a finding has the members `file`, `line`, `level`, `kind` and `message`; `at`, with a `file` and a `line`,
+ * if the message refers to another line; and as far as the message has them a `name`, an `email` and a `count`, and the
+ * same in `beside`, of what it names second. A text is `{"text": ".."}`, or `{"bytes": ".."}` in Base64 if it isn't
+ * UTF-8; only what JSON needs is escaped. Later versions may write more members.
+ *
+ * As annotations, findings are what GitHub's workflows show at the lines of a file, such as
+ *
+ *     ::warning file=own,line=2,title=unneeded::no contact needs it
+ *
+ * `needed` is the length of the text, and 0 on OUT_OF_MEMORY.
  * OK; TOO_SHORT; OUT_OF_MEMORY. */
 gix_mailmap_status gix_mailmap_report_as(const gix_mailmap_named *mailmaps, size_t count,
                                          const gix_mailmap_named *contacts, gix_mailmap_format format,

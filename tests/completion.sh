@@ -26,6 +26,8 @@ completes 'mailmap_verify --severity ' 'error warning note'
 completes 'mailmap_verify --severity=w' warning
 completes 'mailmap_verify --severity=' 'error warning note'
 completes 'mailmap_verify -f j' json
+completes 'mailmap_verify -f g' 'gcc github'
+completes 'mailmap_verify --prune --i' --in-place
 completes 'mailmap_verify -e same-' 'same-email same-name'
 completes 'mailmap_verify -e s' 'same-email shared-email same-name similar-name'
 completes 'mailmap_verify -e no-email,un' 'no-email,unclosed-email no-email,unclosed-second-email no-email,unneeded'
@@ -48,7 +50,7 @@ takes() {
 _mailmap_verify mailmap_verify '' -e
 takes --exclude= "${COMPREPLY[*]}"
 takes --severity= 'error warning note'
-takes --format= 'gcc json'
+takes --format= 'gcc json github'
 named="$(sed -n 's/.*Kind::[A-Za-z]* => "\([a-z-]*\)".*/\1/p' crates/mailmap_report/src/kinds.rt | xargs)"
 if [ "${COMPREPLY[*]}" != "$named" ]; then
     printf 'bash offers the kinds:\n%s\nand the program has:\n%s\n' "${COMPREPLY[*]}" "$named" >&2

@@ -26,7 +26,9 @@ FILES = {
     "contacts": b"bob <BUGS@example.com>\nnot a contact\n",
     # One of these contacts has the email of the first, and one its name.
     "alike": b"bob <b@example.com>\nnot a contact\nBOB <B@example.com>\nbob <bob@example.com>\n",
+    "twice": b"bob <b@example.com>\nbob <b@example.com>\n",
 }
+ONCE = b"bob <b@example.com>\n"
 # A path of more than 256 bytes is copied when its file is opened. So many files make the lists of arguments and files
 # grow several times.
 LONG = "./" * 128 + "empty"
@@ -67,6 +69,21 @@ MODES = [
     Mode(VERIFY, ["--suggest", "-"], ["mailmap"], "alike", 0,
          b"# 1 bob <b@example.com>\n# 1 BOB <B@example.com>\nbob <b@example.com> <b@example.com>\n\n"
          b"# 2 bob <b@example.com>\n# 1 bob <bob@example.com>\n#?bob <b@example.com> <bob@example.com>\n\n", True),
+    Mode(VERIFY, ["-f", "github", "twice"], ["mailmap"], "contacts", 1,
+         b"::warning file=twice,line=1,title=no-effect::no effect: twice:2 says the same\n"),
+    Mode(VERIFY, ["-f", "json", "--contacts", "alike"], ["mailmap"], "contacts", 1,
+         b'{"file":{"text":"mailmap"},"kind":"unneeded","level":"warning","line":1,'
+         b'"message":{"text":"no contact needs it"}}\n'
+         b'{"file":{"text":"alike"},"kind":"no-contact","level":"error","line":2,"message":{"text":"no contact"}}\n'
+         b'{"at":{"file":{"text":"alike"},"line":1},"beside":{"count":1,"email":{"text":"b@example.com"},'
+         b'"name":{"text":"bob"}},"count":1,"email":{"text":"B@example.com"},"file":{"text":"alike"},'
+         b'"kind":"same-email","level":"warning","line":3,"message":{"text":"BOB <B@example.com> (1) has the email of '
+         b'bob <b@example.com> (1)"},"name":{"text":"BOB"}}\n'
+         b'{"at":{"file":{"text":"alike"},"line":1},"beside":{"count":1,"email":{"text":"b@example.com"},'
+         b'"name":{"text":"bob"}},"count":1,"email":{"text":"bob@example.com"},"file":{"text":"alike"},'
+         b'"kind":"same-name","level":"note","line":4,"message":{"text":"bob <bob@example.com> (1) has the name of '
+         b'bob <b@example.com> (1)"},"name":{"text":"bob"}}\n', True),
+    Mode(VERIFY, ["--prune", "--in-place"], ["twice"], "contacts", 0, b""),
     Mode(SHORTLOG, ["-ne"], ["mailmap"], "contacts", 0, b"     1\tJoe R. Developer <joe@example.com>\n", True,
          b"mailmap_shortlog: lines without a contact: 1; the first is line 2\n"),
 ]
@@ -81,13 +98,25 @@ def is_refusal(mode, result):
     return status == 2 and begins and said == b"%b: out of memory\n" % mode.program.encode()
 
 
+def is_left(text):
+    """Whether the file `twice` has this text, and nothing is beside it. It is made again for the next run."""
+    has, lock = Path("twice").read_bytes(), Path("twice.lock")
+    is_alone = not lock.exists()
+    lock.unlink(missing_ok=True)
+    Path("twice").write_bytes(FILES["twice"])
+    return has == text and is_alone
+
+
 def refuse(refusing, mode, program, files):
     """Refuses each request of a mode with these files. Returns how often the program then failed, as it should."""
     global passed, failed
     words, refusals = [*mode.before, *files, *mode.after], 0
     for result, was_refused in refusing.runs([program, *words], FILES[mode.stdin]):
         is_whole = result == (mode.status, mode.printed, mode.said)
-        if is_whole or (was_refused and is_refusal(mode, result)):
+        if not is_left(ONCE if is_whole and "--in-place" in mode.before else FILES["twice"]):
+            failed += 1
+            print(f"{mode.program} {' '.join(words)[:200]}: files are left otherwise")
+        elif is_whole or (was_refused and is_refusal(mode, result)):
             refusals += not is_whole
             passed += was_refused
         else:

@@ -17,11 +17,11 @@ OSError of `from_path` and `of_repository`, and the ImportError of a failed impo
 
 from ._mailmap import Mailmap, check, compact, explain, findings, parse, prune, report, suggest, unneeded, verify
 from ._native import version as __version__
-from ._results import Answer, Closed, Entry, Error, Finding, Kind, Line, NoEntry, NotALine, NotAnEntry, NotAText, Notice
-from ._results import OutOfMemory, Place, Position, Unwritable
+from ._results import Answer, Closed, Entry, Error, Finding, Kind, Line, Named, NoEntry, NotALine, NotAnEntry, NotAText
+from ._results import Notice, OutOfMemory, Place, Position, Unwritable
 
 __all__ = [
-    "Answer", "Closed", "Entry", "Error", "Finding", "Kind", "Line", "Mailmap", "NoEntry", "NotALine", "NotAText",
-    "NotAnEntry", "Notice", "OutOfMemory", "Place", "Position", "Unwritable", "__version__", "check", "compact",
+    "Answer", "Closed", "Entry", "Error", "Finding", "Kind", "Line", "Mailmap", "Named", "NoEntry", "NotALine",
+    "NotAText", "NotAnEntry", "Notice", "OutOfMemory", "Place", "Position", "Unwritable", "__version__", "check", "compact",
     "explain", "findings", "parse", "prune", "report", "suggest", "unneeded", "verify",
 ]

@@ -191,6 +191,14 @@ def verify(mailmap: Text) -> list[Finding]:
     return [Finding.of(*one, words=line.partition(": ")[2]) for one, line in zip(found, messages.split("\n"))]
 
 
+# the functions for each format, without contacts and with them
+_REPORTS = {
+    "gcc": (_native.report, _native.report_beside),
+    "json": (_native.report_json, _native.report_json_beside),
+    "github": (_native.report_github, _native.report_github_beside),
+}
+
+
 @of_named
 def report(mailmaps: Iterable[tuple[Any, Any]], contacts: Any = None, format: str = "gcc") -> Union[str, bytes]:
     """What is wrong with mailmaps, each with its name, as `mailmap_verify` prints it: a line for each finding. They are
@@ -201,14 +209,14 @@ def report(mailmaps: Iterable[tuple[Any, Any]], contacts: Any = None, format: st
     own:1: error: no email in brackets [no-email]
 
     With contacts, a pair of a name and a text with a contact on each line, also what `mailmap_verify --contacts` finds
-    in them. In the format "json" each finding is an object on a line of its own; `findings` has the same as `Notice`s.
+    in them. In the format "json" each finding is an object on a line of its own, and in the format "github" an
+    annotation, which GitHub shows at a line of a file. `findings` has the same as `Notice`s.
     """
     texts = [*([] if contacts is None else _named([contacts])), *_named(mailmaps)]
-    if format not in ("gcc", "json"):
-        raise ValueError(f"the format is 'gcc' or 'json', not {format!r:.80}")
-    if contacts is None:
-        return _native.report(*texts) if format == "gcc" else _native.report_json(*texts)
-    return _native.report_beside(*texts) if format == "gcc" else _native.report_json_beside(*texts)
+    if format not in ("gcc", "json", "github"):
+        raise ValueError(f"the format is 'gcc', 'json' or 'github', not {format!r:.80}")
+    alone, beside = _REPORTS[format]
+    return alone(*texts) if contacts is None else beside(*texts)
 
 
 @overload

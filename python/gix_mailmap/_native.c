@@ -144,7 +144,8 @@ static PyObject *new_named_tuple(PyObject *class, PyObject *const items[4], PyOb
 
 /* The functions of the library that write into a buffer. */
 typedef enum Which {
-    CHECK, COMPACT, PRUNE, VERIFY, REPORT, JSON, BESIDE, JSON_BESIDE, EXPLAIN, SUGGEST, UNNEEDED, WRITE
+    CHECK, COMPACT, PRUNE, VERIFY, REPORT, JSON, GITHUB, BESIDE, JSON_BESIDE, GITHUB_BESIDE, EXPLAIN, SUGGEST, UNNEEDED,
+    WRITE
 } Which;
 
 /* The arguments of such a function: texts, mailmaps with their names, or an open mailmap. */
@@ -159,18 +160,20 @@ static gix_mailmap_status write_into(Which which, const Given *given, void *out,
 {
     const Text *a = &given->texts[0], *b = &given->texts[1];
     const gix_mailmap_format format = which == JSON || which == JSON_BESIDE ? GIX_MAILMAP_FORMAT_JSON
-                                                                            : GIX_MAILMAP_FORMAT_GCC;
+        : which == GITHUB || which == GITHUB_BESIDE ? GIX_MAILMAP_FORMAT_GITHUB : GIX_MAILMAP_FORMAT_GCC;
     switch (which) {
     case CHECK: return gix_mailmap_check(a->at, a->len, b->at, b->len, out, out_len, needed);
     case COMPACT: return gix_mailmap_compact(a->at, a->len, out, out_len, needed);
     case PRUNE: return gix_mailmap_prune(a->at, a->len, out, out_len, needed);
     case VERIFY: return gix_mailmap_verify(a->at, a->len, out, out_len, needed);
     case REPORT:
-    case JSON: return gix_mailmap_report_as(given->named, given->count, NULL, format, out, out_len, needed);
+    case JSON:
+    case GITHUB: return gix_mailmap_report_as(given->named, given->count, NULL, format, out, out_len, needed);
     /* the first one is the contacts */
     case BESIDE:
-    case JSON_BESIDE: return gix_mailmap_report_as(given->named + 1, given->count - 1, given->named, format, out,
-                                                   out_len, needed);
+    case JSON_BESIDE:
+    case GITHUB_BESIDE: return gix_mailmap_report_as(given->named + 1, given->count - 1, given->named, format, out,
+                                                     out_len, needed);
     case EXPLAIN: return gix_mailmap_explain(given->named, given->count, a->at, a->len, out, out_len, needed);
     case SUGGEST: return gix_mailmap_suggest(given->named, given->count, a->at, a->len, out, out_len, needed);
     case UNNEEDED: return gix_mailmap_unneeded(given->named, given->count, a->at, a->len, out, out_len, needed);
@@ -237,12 +240,12 @@ static PyObject *make_findings(const Given *given)
     return both != NULL ? both : raise_no_memory();
 }
 
-/* Calls a function that takes only texts: the contacts, if it takes any, with their name for BESIDE and JSON_BESIDE, and
- * then each mailmap's name and its text. */
+/* Calls a function that takes only texts: the contacts, if it takes any, with their name from BESIDE to GITHUB_BESIDE,
+ * and then each mailmap's name and its text. */
 static PyObject *call(Which which, PyObject *args)
 {
     size_t count = (size_t)PyTuple_Size(args), guess = 4096;
-    if (count < 2 && (which == BESIDE || which == JSON_BESIDE))
+    if (count < 2 && BESIDE <= which && which <= GITHUB_BESIDE)
         return PyErr_Format(PyExc_TypeError, "expected contacts with their name");
     Text *texts = PyMem_Calloc(count + 2, sizeof *texts);
     gix_mailmap_named *named = PyMem_Calloc(count / 2 + 1, sizeof *named);
@@ -255,14 +258,15 @@ static PyObject *call(Which which, PyObject *args)
     PyObject *made = !ok ? NULL
         : which == VERIFY ? make_findings(&given)
         : which == UNNEEDED ? make_rows(which, &given)
-        : make_text(which, &given, texts[0].is_str, which < REPORT || which > JSON_BESIDE ? guess : 4096);
+        : make_text(which, &given, texts[0].is_str, which < REPORT || which > GITHUB_BESIDE ? guess : 4096);
     release(texts, texts != NULL ? count : 0);
     PyMem_Free(texts), PyMem_Free(named);
     return made;
 }
 
 #define FUNCTIONS(each) each(check, CHECK) each(compact, COMPACT) each(prune, PRUNE) each(verify, VERIFY) \
-    each(report, REPORT) each(report_json, JSON) each(report_beside, BESIDE) each(report_json_beside, JSON_BESIDE) \
+    each(report, REPORT) each(report_json, JSON) each(report_github, GITHUB) each(report_beside, BESIDE) \
+    each(report_json_beside, JSON_BESIDE) each(report_github_beside, GITHUB_BESIDE) \
     each(explain, EXPLAIN) each(suggest, SUGGEST) each(unneeded, UNNEEDED)
 #define DEFINED(name, which) \
     static PyObject *name(PyObject *Py_UNUSED(module), PyObject *args) { return call(which, args); }

@@ -112,10 +112,20 @@ class Place(NamedTuple, Generic[AnyStr]):
     line: int
 
 
+class Named(NamedTuple, Generic[AnyStr]):
+    """A name and an email that a message has, and a number that it has, mostly how often they come. What it doesn't
+    have is None."""
+
+    name: Optional[AnyStr]
+    email: Optional[AnyStr]
+    number: Optional[int]
+
+
 class Notice(NamedTuple, Generic[AnyStr]):
     """A finding in mailmaps or contacts, in the words of `mailmap_verify`, without escapes: its file and line, its level
-    (`error`, `warning` or `note`), its kind, such as `same-email`, what is said, and the other line that is referred to,
-    the first one if there are two."""
+    (`error`, `warning` or `note`), its kind, such as `same-email`, its message, the other line that is referred to,
+    the first one if there are two, what the message names, and what it names second. Texts that the message cuts are
+    whole there."""
 
     file: AnyStr
     line: int
@@ -123,14 +133,24 @@ class Notice(NamedTuple, Generic[AnyStr]):
     kind: str
     message: AnyStr
     at: Optional[Place[AnyStr]]
+    named: Named[AnyStr]
+    beside: Optional[Named[AnyStr]]
 
 
 def notice_of(found: dict[str, Any], is_str: bool) -> Notice[Any]:
     """A notice of an object in the report as JSON."""
-    at = found.get("at")
+    at, beside = found.get("at"), found.get("beside")
     other = None if at is None else Place(_text_of(at["file"], is_str), at["line"])
+    second = None if beside is None else _named_of(beside, is_str)
     file, message = _text_of(found["file"], is_str), _text_of(found["message"], is_str)
-    return Notice(file, found["line"], found["level"], found["kind"], message, other)
+    named = _named_of(found, is_str)
+    return Notice(file, found["line"], found["level"], found["kind"], message, other, named, second)
+
+
+def _named_of(found: dict[str, Any], is_str: bool) -> Named[Any]:
+    """What an object of the report as JSON names."""
+    name, email = (_text_of(found[key], is_str) if key in found else None for key in ("name", "email"))
+    return Named(name, email, found.get("count"))
 
 
 def _text_of(member: dict[str, str], is_str: bool) -> Any:

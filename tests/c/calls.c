@@ -246,30 +246,49 @@ static gix_mailmap_status lines_beside(char *out, size_t room, size_t *needed)
     return gix_mailmap_report_as(BESIDE, 1, &HISTORY, GIX_MAILMAP_FORMAT_GCC, out, room, needed);
 }
 
+static const char BESIDE_FOR_GITHUB[] =
+    "::warning file=own,line=1,title=unneeded::no contact needs it\n"
+    "::error file=own,line=2,title=no-email::no email in brackets\n"
+    "::warning file=his\\x1btory,line=2,title=same-email::jane\xff <JANE@x> (1) has the email of Jane <jane@x> (2)\n"
+    "::error file=his\\x1btory,line=4,title=no-contact::no contact\n"
+    "::notice file=his\\x1btory,line=6,title=same-name::Jane <q@x> (1) has the name of Jane <jane@x> (2)\n";
+
+static gix_mailmap_status annotations_beside(char *out, size_t room, size_t *needed)
+{
+    return gix_mailmap_report_as(BESIDE, 1, &HISTORY, GIX_MAILMAP_FORMAT_GITHUB, out, room, needed);
+}
+
 static gix_mailmap_status objects_beside(char *out, size_t room, size_t *needed)
 {
     return gix_mailmap_report_as(BESIDE, 1, &HISTORY, GIX_MAILMAP_FORMAT_JSON, out, room, needed);
 }
 
-/* a finding in words as the report as lines has it, with the other line; escapes aside */
+/* a finding in words as the report as lines has it, with the other line and what is named; escapes aside */
 static bool is_notice(const gix_mailmap_notice *n, const char *texts, const char *words)
 {
     char line[256];
-    snprintf(line, sizeof line, "%.*s:%zu: %.*s: %.*s [%.*s] %.*s:%zu", (int)n->file.len, texts + n->file.start, n->line,
-             (int)n->level.len, texts + n->level.start, (int)n->message.len, texts + n->message.start, (int)n->kind.len,
-             texts + n->kind.start, (int)n->other_file.len, texts + n->other_file.start, n->other_line);
+#define PART(place) (int)place.len, texts + place.start
+    snprintf(line, sizeof line, "%.*s:%zu: %.*s: %.*s [%.*s] %.*s:%zu %.*s <%.*s> %zu, %.*s <%.*s> %zu", PART(n->file),
+             n->line, PART(n->level), PART(n->message), PART(n->kind), PART(n->other_file), n->other_line,
+             PART(n->named.name), PART(n->named.email), n->named.count, PART(n->beside.name), PART(n->beside.email),
+             n->beside.count);
     return strcmp(line, words) == 0;
 }
+
+#define UNNOTICED \
+    {97, 98, {1, 2}, {3, 4}, {5, 6}, {7, 8}, {9, 10}, {{11, 12}, {13, 14}, 15}, {{16, 17}, {18, 19}, 20}}
 
 static void notices(void)
 {
     static const char *const WORDS[] = {
-        "own:1: warning: no contact needs it [unneeded] :0",
-        "own:2: error: no email in brackets [no-email] :0",
-        "his\x1btory:2: warning: jane\xff <JANE@x> (1) has the email of Jane <jane@x> (2) [same-email] his\x1btory:1",
-        "his\x1btory:4: error: no contact [no-contact] :0",
-        "his\x1btory:6: note: Jane <q@x> (1) has the name of Jane <jane@x> (2) [same-name] his\x1btory:1"};
-    gix_mailmap_notice found[6], unfound = {97, 98, {1, 2}, {3, 4}, {5, 6}, {7, 8}, {9, 10}};
+        "own:1: warning: no contact needs it [unneeded] :0  <> 0,  <> 0",
+        "own:2: error: no email in brackets [no-email] :0  <> 0,  <> 0",
+        "his\x1btory:2: warning: jane\xff <JANE@x> (1) has the email of Jane <jane@x> (2) [same-email] his\x1btory:1 "
+        "jane\xff <JANE@x> 1, Jane <jane@x> 2",
+        "his\x1btory:4: error: no contact [no-contact] :0  <> 0,  <> 0",
+        "his\x1btory:6: note: Jane <q@x> (1) has the name of Jane <jane@x> (2) [same-name] his\x1btory:1 "
+        "Jane <q@x> 1, Jane <jane@x> 2"};
+    gix_mailmap_notice found[6], unfound = UNNOTICED;
     char texts[512], clean[512];
     size_t needed = 99, len = 99;
     memset(clean, '#', sizeof clean);
@@ -303,6 +322,7 @@ static void notices(void)
 static void report_as(void)
 {
     want_whole(lines_beside, TEXT(BESIDE_LINES));
+    want_whole(annotations_beside, TEXT(BESIDE_FOR_GITHUB));
     size_t needed = 99;
     char out[2048] = "";
     WANT(objects_beside(out, sizeof out - 1, &needed) == GIX_MAILMAP_OK && needed < sizeof out);
@@ -909,7 +929,7 @@ static int texts_once(void)
     WANT(needed ? needed == sizeof REPORT - 1 && memcmp(all, REPORT, needed) == 0 : all[0] == '#');
     /* no contact, so that no suggestion is made */
     const gix_mailmap_named plain = {TEXT("h"), TEXT("plain")};
-    gix_mailmap_notice notices[3] = {{97, 98, {1, 2}, {3, 4}, {5, 6}, {7, 8}, {9, 10}}};
+    gix_mailmap_notice notices[3] = {UNNOTICED};
     size_t texts_len = 99;
     all[0] = '#';
     WANT(is_done(gix_mailmap_notices(BESIDE, 1, &plain, notices, 3, all, sizeof all, &needed, &texts_len), &needed,

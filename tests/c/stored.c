@@ -6,8 +6,8 @@
  *     stored entries FILE..    its entries, in hex
  *     stored resolve FILE..    the answers to the lines NAME EMAIL, in hex, on standard input
  *     stored parse FILE..      the entry or the fault of each line, in hex
- *     stored gcc|json CONTACTS FILE..    the findings in the FILEs and in the contacts
- *     stored notices CONTACTS FILE..     the same: the numbers of the lines, and the other texts in hex
+ *     stored gcc|json|github CONTACTS FILE..    the findings in the FILEs and in the contacts
+ *     stored notices CONTACTS FILE..            the same: the numbers, and the other texts in hex
  */
 #include "gix_mailmap.h"
 #include <stdio.h>
@@ -270,12 +270,16 @@ static void put_notices(const gix_mailmap_named *contacts, size_t count, const g
          == GIX_MAILMAP_OK, "notices");
     for (size_t i = 0; i < needed; i++) {
         const gix_mailmap_notice *n = &notices[i];
-        printf("%zu %zu ", n->line, n->other_line);
+        printf("%zu %zu %zu %zu ", n->line, n->other_line, n->named.count, n->beside.count);
         put_place(texts.bytes, n->file, true, ' ');
         put_place(texts.bytes, n->level, true, ' ');
         put_place(texts.bytes, n->kind, true, ' ');
         put_place(texts.bytes, n->message, true, ' ');
-        put_place(texts.bytes, n->other_file, true, '\n');
+        put_place(texts.bytes, n->other_file, true, ' ');
+        put_place(texts.bytes, n->named.name, true, ' ');
+        put_place(texts.bytes, n->named.email, true, ' ');
+        put_place(texts.bytes, n->beside.name, true, ' ');
+        put_place(texts.bytes, n->beside.email, true, '\n');
     }
     free(texts.bytes);
     free(notices);
@@ -290,7 +294,10 @@ static void put_findings(const char *form, const char *contacts_path, size_t cou
     if (strcmp(form, "notices") == 0)
         put_notices(&contacts, count, mailmaps);
     else
-        put_report(strcmp(form, "json") == 0 ? GIX_MAILMAP_FORMAT_JSON : GIX_MAILMAP_FORMAT_GCC, &contacts, count, mailmaps);
+        put_report(strcmp(form, "json") == 0     ? GIX_MAILMAP_FORMAT_JSON
+                   : strcmp(form, "github") == 0 ? GIX_MAILMAP_FORMAT_GITHUB
+                                                 : GIX_MAILMAP_FORMAT_GCC,
+                   &contacts, count, mailmaps);
     for (size_t i = 0; i < count; i++)
         free((char *)mailmaps[i].text);
     free((char *)contacts.text);
@@ -307,7 +314,8 @@ static bool reads_texts(int count, char **words)
         put_parsed(mailmap);
         free(mailmap.bytes);
     }
-    bool finds = strcmp(mode, "gcc") == 0 || strcmp(mode, "json") == 0 || strcmp(mode, "notices") == 0;
+    bool finds = strcmp(mode, "gcc") == 0 || strcmp(mode, "json") == 0 || strcmp(mode, "github") == 0
+        || strcmp(mode, "notices") == 0;
     if (finds)
         put_findings(mode, words[2], (size_t)count - 3, words + 3);
     return parses || finds;

@@ -11,7 +11,7 @@ from shown import LIMIT
 # Spellings of names and emails that git and the library read alike, the common ones more than once. Letters that aren't
 # ASCII have no other case, not even in Latin-1. \x1c, and \x85 and \xa0 alone, are not white space.
 NAMES = 4 * [[b"Ann", b"ANN"], [b"Bob", b"bOb"], [b"Ann Lee"]] + [
-    [b"J\xc3\xb6", b"J\xc3\x96"], [b"\xff\xe4", b"\xff\xc4"], [b"a>b"], [b"# c", b"# C"], [b"E\x1b[1m", b"e\x1b[1m"],
+    [b"J\xc3\xb6", b"J\xc3\x96"], [b"\xff\xe4", b"\xff\xc4"], [b"a>b"], [b"##[c", b"##[C"], [b"E\x1b[1m", b"e\x1b[1m"],
     [b"\x7f"], [b"\x1cCy", b"\x85Cy\xa0"], [b"Cy\r", b"\tcy"],
 ]
 EMAILS = 4 * [[b"a@x", b"A@x"], [b"b@x", b"B@X"], [b"c@x"]] + [

@@ -30,9 +30,12 @@ def escaped(character):
 
 
 def shown(text):
-    """The line of a report, with what could control a terminal, can't be seen or turns the direction of text escaped."""
+    """The line of a report, with what could control a terminal, can't be seen or turns the direction of text escaped, and
+    what GitHub takes for commands: `##[`, and `::` at the beginning of a line."""
     characters = text.decode("utf-8", "surrogateescape")
-    return "".join(map(escaped, characters)).encode("utf-8", "surrogateescape") + b"\n"
+    line = "".join(map(escaped, characters)).replace("##[", "##\\x5b")
+    line = "\\x3a" + line[1:] if line.startswith("::") else line
+    return line.encode("utf-8", "surrogateescape") + b"\n"
 
 
 def is_character(text):

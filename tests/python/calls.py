@@ -9,7 +9,7 @@ from pathlib import Path
 from unittest.mock import Mock
 
 import gix_mailmap
-from gix_mailmap import Answer, Closed, Entry, Finding, Kind, Mailmap, NotALine, NotAnEntry, Notice, Place, Position
+from gix_mailmap import Answer, Closed, Entry, Finding, Kind, Mailmap, Named, NotALine, NotAnEntry, Notice, Place, Position
 from gix_mailmap import Unwritable
 
 MAP = b"Jane Doe <jane@x> <jd@y>\nJoe <joe@x>\n"
@@ -116,12 +116,14 @@ class Texts(unittest.TestCase):
     def test_findings(self):
         """Findings about mailmaps and contacts, in a `str` and in bytes that are no UTF-8."""
         own, history = (b"own", b"N <e@x>\nplain\nN <e@x>\n"), (b"h", b"Jane <j@x>\nJ\xff <J@x>\n\nplain\nJane <j@x>")
+        nothing = Named(None, None, None)
         wanted = [
-            Notice(b"own", 1, "warning", "no-effect", b"no effect: own:3 says the same", Place(b"own", 3)),
-            Notice(b"own", 2, "error", "no-email", b"no email in brackets", None),
-            Notice(b"own", 3, "warning", "unneeded", b"no contact needs it", None),
-            Notice(b"h", 2, "warning", "same-email", b"J\xff <J@x> (1) has the email of Jane <j@x> (2)", Place(b"h", 1)),
-            Notice(b"h", 4, "error", "no-contact", b"no contact", None),
+            Notice(b"own", 1, "warning", "no-effect", b"no effect: own:3 says the same", Place(b"own", 3), nothing, None),
+            Notice(b"own", 2, "error", "no-email", b"no email in brackets", None, nothing, None),
+            Notice(b"own", 3, "warning", "unneeded", b"no contact needs it", None, nothing, None),
+            Notice(b"h", 2, "warning", "same-email", b"J\xff <J@x> (1) has the email of Jane <j@x> (2)", Place(b"h", 1),
+                   Named(b"J\xff", b"J@x", 1), Named(b"Jane", b"j@x", 2)),
+            Notice(b"h", 4, "error", "no-contact", b"no contact", None, nothing, None),
         ]
         self.assertEqual(gix_mailmap.findings([own], history), wanted)
         self.assertEqual(gix_mailmap.findings(iter([own])), wanted[:2])
@@ -130,9 +132,23 @@ class Texts(unittest.TestCase):
         self.assertEqual(gix_mailmap.report([own], format="gcc"), b"".join(lines[:2]))
         of_str = gix_mailmap.findings([("ä", "plain")], ("b", "J\udcff <a>\nj <A>"))
         self.assertEqual(of_str, [
-            Notice("ä", 1, "error", "no-email", "no email in brackets", None),
-            Notice("b", 2, "warning", "same-email", "j <A> (1) has the email of J\udcff <a> (1)", Place("b", 1)),
+            Notice("ä", 1, "error", "no-email", "no email in brackets", None, nothing, None),
+            Notice("b", 2, "warning", "same-email", "j <A> (1) has the email of J\udcff <a> (1)", Place("b", 1),
+                   Named("j", "A", 1), Named("J\udcff", "a", 1)),
         ])
+        # names and emails without a number, and each without the other
+        found = gix_mailmap.findings([("own", "N <b@x> <a@x>\nP <n@x> <b@x>\nM < q@x >\n")])
+        self.assertEqual([(one.kind, one.named, one.beside) for one in found], [
+            ("itself-mapped", Named("N", "b@x", None), Named("P", "n@x", None)),
+            ("git-reads", Named("M", None, None), Named(None, " q@x ", None)),
+        ])
+        self.assertEqual(gix_mailmap.report([("o,n", "plain%"), ("team", "N <a@x>\nN <a@x> ##[x\n")], format="github"),
+                         "::error file=o%2Cn,line=1,title=no-email::no email in brackets\n"
+                         "::warning file=team,line=1,title=no-effect::no effect: team:2 says the same\n"
+                         "::warning file=team,line=2,title=ignored-text::ignored text: ##\\x5bx\n")
+        self.assertEqual(gix_mailmap.report([], ("h", "a <a@x>\nplain\nA <b@x>\n"), "github"),
+                         "::error file=h,line=2,title=no-contact::no contact\n"
+                         "::notice file=h,line=3,title=same-name::A <b@x> (1) has the name of a <a@x> (1)\n")
         self.assertEqual(gix_mailmap.findings([]), [])
         self.assertEqual(gix_mailmap.findings([], ("", "")), [])
         # a line separator in a message ends no line of the report

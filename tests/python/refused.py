@@ -55,7 +55,9 @@ class Refused(unittest.TestCase):
         for name, arguments in (
             ("check", (MAP, "jd <jd@y>")), ("compact", (MAP,)), ("prune", (bytearray(BYTES),)), ("verify", ("x\ny",)),
             ("report", pairs), ("report_json", pairs), ("report_beside", ("h", "j <a>\nJ <a>", *pairs)),
-            ("report_json_beside", ("h", "j <a>\nJ <a>", *pairs)), ("parse", (MANY,)), ("parse", (surrogate() + "\n" + MANY,)),
+            ("report_json_beside", ("h", "j <a>\nJ <a>", *pairs)), ("report_github", pairs),
+            ("report_github_beside", ("h", "j <a>\nJ <a>", *pairs)),
+            ("parse", (MANY,)), ("parse", (surrogate() + "\n" + MANY,)),
             ("explain", ("jd <jd@y>", *pairs)), ("unneeded", ("", *pairs)),
             ("suggest", ("a <x@x>\nb <x@x>", *pairs)),
             ("verify", ("x\n" * 200,)), ("report", ("a", "x\n" * 400)), ("compact", (surrogate(),)),

@@ -12,12 +12,12 @@ import sys
 import tempfile
 from pathlib import Path
 
-from gix_mailmap import Notice, Place, findings, report
+from gix_mailmap import Named, Notice, Place, findings, report
 
 
-def as_program(folder, names):
-    """What the program in the package prints as JSON."""
-    words = [sys.executable, "-m", "gix_mailmap", "-f", "json", "--contacts", "c", *names]
+def as_program(folder, names, form):
+    """What the program in the package prints in a format."""
+    words = [sys.executable, "-m", "gix_mailmap", "-f", form, "--contacts", "c", *names]
     return subprocess.run(words, cwd=folder, stdout=subprocess.PIPE, check=False).stdout
 
 
@@ -25,10 +25,16 @@ def text_of(member):
     return member["text"].encode() if "text" in member else base64.b64decode(member["bytes"])
 
 
+def named_of(found):
+    return Named(*(text_of(found[key]) if key in found else None for key in ("name", "email")), found.get("count"))
+
+
 def notice_of(found):
-    at = found.get("at")
+    at, beside = found.get("at"), found.get("beside")
     other = None if at is None else Place(text_of(at["file"]), at["line"])
-    return Notice(text_of(found["file"]), found["line"], found["level"], found["kind"], text_of(found["message"]), other)
+    second = None if beside is None else named_of(beside)
+    file, message = text_of(found["file"]), text_of(found["message"])
+    return Notice(file, found["line"], found["level"], found["kind"], message, other, named_of(found), second)
 
 
 def decoded(item):
@@ -37,8 +43,8 @@ def decoded(item):
 
 
 def in_str(notice):
-    at = None if notice.at is None else Place(decoded(notice.at.file), notice.at.line)
-    return Notice(*map(decoded, notice[:-1]), at)
+    at, named, beside = (one if one is None else type(one)(*map(decoded, one)) for one in notice[-3:])
+    return Notice(*map(decoded, notice[:-3]), at, named, beside)
 
 
 def is_as_wanted(case, folder):
@@ -46,12 +52,13 @@ def is_as_wanted(case, folder):
     mailmaps, contacts = list(texts.items()), (b"c", bytes.fromhex(case["contacts"]))
     for name, text in (*mailmaps, contacts):
         (Path(folder) / name.decode()).write_bytes(text)
-    printed = as_program(folder, [name.decode() for name in texts])
+    printed, annotations = (as_program(folder, [name.decode() for name in texts], form) for form in ("json", "github"))
     found = [notice_of(json.loads(line)) for line in printed.split(b"\n")[:-1]]
     of_str = [tuple(map(decoded, pair)) for pair in (contacts, *mailmaps)]
     return (
         report(mailmaps, contacts) == bytes.fromhex(case["with_contacts"][1])
         and report(mailmaps, contacts, "json") == printed
+        and report(mailmaps, contacts, "github") == annotations
         and findings(mailmaps, contacts) == found
         and (findings(of_str[1:], of_str[0]) == list(map(in_str, found)))
     )

@@ -2,7 +2,7 @@
 from typing import Iterator, Sequence, assert_type
 
 import gix_mailmap
-from gix_mailmap import Answer, Entry, Finding, Kind, Line, Mailmap, Notice, Position
+from gix_mailmap import Answer, Entry, Finding, Kind, Line, Mailmap, Named, Notice, Position
 
 
 class Own(Mailmap[str]):
@@ -68,8 +68,11 @@ assert_type(gix_mailmap.prune(b""), bytes)
 assert_type(gix_mailmap.report([("", "")]), str)
 assert_type(gix_mailmap.report({b"": b""}.items()), bytes)
 assert_type(gix_mailmap.report([("", "")], ("", ""), format="json"), str)
+assert_type(gix_mailmap.report({b"": b""}.items(), format="github"), bytes)
 assert_type(gix_mailmap.findings([("", "")]), list[Notice[str]])
 assert_type(gix_mailmap.findings({b"": b""}.items(), (b"", b""))[0].message, bytes)
+assert_type(gix_mailmap.findings([("", "")])[0].named.name, str | None)
+assert_type(gix_mailmap.findings([("", "")])[0].beside, Named[str] | None)
 assert_type(gix_mailmap.parse(""), list[Line])
 assert_type(gix_mailmap.parse(buffer)[0].old_email, slice | None)
 assert_type(gix_mailmap.explain([("", "")], ""), str)

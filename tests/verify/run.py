@@ -18,7 +18,6 @@ has the same normal list, tried line by line.
 import base64
 import json
 import os
-import re
 import subprocess
 import sys
 import tempfile
@@ -29,17 +28,12 @@ sys.path.append(str(Path(__file__).resolve().parent.parent))
 import runs
 from repository import QUIET, has_git
 from runs import run, wants
-from hostile import CURE, LIMIT, REFUSED, hostile  # the file beside this one
+# the files beside this one
+from formats import annotations, fields
+from hostile import CURE, LIMIT, REFUSED, hostile
+from in_place import in_place, in_place_case
 
 VERSION = (Path(__file__).resolve().parents[2] / "VERSION").read_bytes().strip()
-
-
-def as_standard_input(printed):
-    """The output for the file m1 if it is standard input."""
-    begun = re.sub(rb"^m1:", b"<stdin>:", printed, flags=re.MULTILINE)
-    begun = re.sub(rb"(: warning: no effect: )m1:(?=[0-9]+ says )", rb"\1<stdin>:", begun, flags=re.MULTILINE)
-    by = rb" by m1:[0-9]+(, m1:[0-9]+)?( \(they look the same\))? \[itself-mapped\]$"
-    return re.sub(by, lambda found: found[0].replace(b"m1:", b"<stdin>:"), begun, flags=re.MULTILINE)
 
 
 def wants_case(program, what, files, status, printed, pruning):
@@ -51,10 +45,11 @@ def wants_case(program, what, files, status, printed, pruning):
     if pruning is None:
         return
     ended, pruned, said = pruning
-    wants(f"{what}, standard input", run(program, ["-"], files[0]), status, as_standard_input(printed))
+    wants(f"{what}, standard input", run(program, ["--stdin-name", "m1", "-"], files[0]), status, printed)
     wants(f"{what}, pruned", run(program, ["--prune", "m1"]), ended, pruned, said)
-    said = said.replace(b"git reads m1:", b"git reads <stdin>:")
-    wants(f"{what}, standard input pruned", run(program, ["--prune", "-"], files[0]), ended, pruned, said)
+    in_place_case(program, what, files[0], ended, pruned, said)
+    words = ["--prune", "--stdin-name", "m1", "-"]
+    wants(f"{what}, standard input pruned", run(program, words, files[0]), ended, pruned, said)
     if ended == 0:
         wants(f"{what}, pruned twice", run(program, ["--prune", "-"], pruned), 0, pruned)
 
@@ -88,9 +83,8 @@ def wants_beside(program, what, names, contacts, status, printed):
     printed = bytes.fromhex(printed)
     Path("c").write_bytes(contacts)
     wants(f"{what} beside mailmaps", run(program, ["--contacts", "c", *names]), status, printed)
-    begun = re.sub(rb"^c:(?=[0-9])", b"<stdin>:", printed, flags=re.MULTILINE)
-    printed = re.sub(rb"(, )c:(?=[0-9]+$)", rb"\1<stdin>:", begun, flags=re.MULTILINE)
-    wants(f"{what} of standard input beside mailmaps", run(program, ["--contacts", "-", *names], contacts), status, printed)
+    words = ["--contacts", "-", "--stdin-name", "c", *names]
+    wants(f"{what} of standard input beside mailmaps", run(program, words, contacts), status, printed)
 
 
 def explanations(program):
@@ -195,14 +189,14 @@ def file_names(program):
 # what follows the message about an unknown value, before the usage
 HELPS = {
     b"unknown level": b"levels: error warning note\n",
-    b"unknown format": b"formats: gcc json\n",
+    b"unknown format": b"formats: gcc json github\n",
     b"unknown kind": b"kinds: no-email unclosed-email empty-email nothing-to-map unclosed-second-email byte-order-mark "
                      b"ignored-text comment-in-line git-reads no-effect itself-mapped unneeded no-contact same-email "
                      b"shared-email same-name similar-name git-answers\n",
 }
 USAGE_LINE = (
-    b"usage: mailmap_verify [--prune | --explain | --contacts CONTACTS | --suggest CONTACTS] [-S LEVEL] [-e KIND,..]\n"
-    b"     [-f FORMAT] [--stdin-name NAME] [--] [FILE..] | --help | --version\n"
+    b"usage: mailmap_verify [--prune [--in-place] | --explain | --contacts CONTACTS | --suggest CONTACTS]\n"
+    b"     [-S LEVEL] [-e KIND,..] [-f FORMAT] [--stdin-name NAME] [--] [FILE..] | --help | --version\n"
 )
 
 
@@ -232,6 +226,7 @@ def options(program):
         (["--prune", "--contacts"], b"a second mode: --contacts"),
         (["--contacts", "c", "--contacts", "c"], b"a second mode: --contacts"),
         (["--suggest", "c", "--contacts=c"], b"a second mode: --contacts=c"),
+        (["--contacts", "c", "--suggest", "c"], b"a second mode: --suggest"),
         (["--contacts"], b"no file after --contacts"),
         (["--suggest"], b"no file after --suggest"),
         (["m1", "-S"], b"no level after -S"),
@@ -250,9 +245,17 @@ def options(program):
         (["-e", "no-effect", "--prune"], b"--prune takes no --exclude"),
         (["--prune", "--format=gcc"], b"--prune takes no --format"),
         (["--explain", "--stdin-name", "m"], b"--explain takes no --stdin-name"),
+        (["-e", "no-effect", "m1", "--explain"], b"--explain takes no --exclude"),
         (["--suggest", "c", "-S", "note"], b"--suggest takes no --severity"),
+        (["--suggest", "c", "-f", "json", "m1"], b"--suggest takes no --format"),
         (["--prune", "-S", "error", "--foo"], b"--prune takes no --severity"),
         (["--foo", "--prune", "-S", "error"], b"unknown option: --foo"),
+        (["--in-place", "m1"], b"--in-place needs --prune"),
+        (["--in-place", "--", "m1"], b"--in-place needs --prune"),
+        (["m1", "--in-place", "--suggest", "c"], b"--in-place needs --prune"),
+        (["--in-place", "--prune", "--prune"], b"a second mode: --prune"),
+        (["--prune", "--in-place=m1"], b"unknown option: --in-place=m1"),
+        (["--in-place", "--prune", "--stdin-name=m", "m1"], b"--prune --in-place takes no --stdin-name"),
     ]:
         said = b"mailmap_verify: " + wrong + b"\n" + HELPS.get(wrong.split(b":")[0], b"") + USAGE_LINE
         wants(f"a misuse: {words}", run(program, words), 2, b"", said)
@@ -370,6 +373,10 @@ NAMES = [
     (b"A\x01", b"A\\x01", b"A", b"A", False),
     (b"A\xff", b"A\xff", b"A\xfe", b"A\xfe", False),
     (b"A\xff", b"A\xff", b"A\xff\xe2\x80\x8b", b"A\xff\\u200b", False),
+    # GitHub takes `##[` for a command
+    (b"##[a", b"##\\x5ba", b"J ###[[b##[", b"J ###\\x5b[b##\\x5b", False),
+    (b"#[a# #[", b"#[a# #[", b"##\xff[##\xc3\xa9[##\x01[##", b"##\xff[##\xc3\xa9[##\\x01[##", False),
+    (b"#\xe2\x80\x8b#[", b"#\\u200b#[", b"##[", b"##\\x5b", True),
 ]
 
 
@@ -442,6 +449,9 @@ def objects(program):
     def text(plain):
         return {"text": plain}
 
+    def named(name, email, count):
+        return {"name": text(name), "email": text(email), "count": count}
+
     Path("team").write_bytes(b"N <a@x>\nN <a@x>\nplain\nJ <j@y> \x1b\"\\\xe2\x80\xae\nK <k@y> \xff\n")
     Path("c").write_bytes(b"a <a@x>\nb <b@x>\nB <B@x>\nplain\nN <q@x>\nj <j@y>\nk <k@y>\n")
     effect = {"file": text("team"), "line": 1, "level": "warning", "kind": "no-effect",
@@ -467,22 +477,25 @@ def objects(program):
     status, printed, said = run(program, ["-f", "json", "-e", "no-effect,no-email,ignored-text", "--contacts", "c", "team"])
     want = [
         {"file": text("c"), "line": 3, "level": "warning", "kind": "same-email",
-         "message": text("B <B@x> (1) has the email of b <b@x> (1)"), "at": {"file": text("c"), "line": 2}},
+         "message": text("B <B@x> (1) has the email of b <b@x> (1)"), "at": {"file": text("c"), "line": 2},
+         **named("B", "B@x", 1), "beside": named("b", "b@x", 1)},
         {"file": text("c"), "line": 4, "level": "error", "kind": "no-contact", "message": text("no contact")},
         {"file": text("c"), "line": 5, "level": "note", "kind": "same-name",
-         "message": text("N <q@x> (1) has the name of N <a@x> (1)"), "at": {"file": text("c"), "line": 1}},
+         "message": text("N <q@x> (1) has the name of N <a@x> (1)"), "at": {"file": text("c"), "line": 1},
+         **named("N", "q@x", 1), "beside": named("N", "a@x", 1)},
     ]
     wants("objects of contacts", (status, [json.loads(line) for line in printed.splitlines()], said), 1, want, b"")
     # no other line is named for a shared email
     Path("c").write_bytes(b"Ann Lee <l@x>\nBob Roe <L@x>\nCy Doe <l@x>\nDan Poe <l@x>\n")
     status, printed, said = run(program, ["-f", "json", "--contacts", "c"])
     want = [{"file": text("c"), "line": 1, "level": "note", "kind": "shared-email",
-             "message": text("l@x is the email of several people (4)")}]
+             "message": text("l@x is the email of several people (4)"), "email": text("l@x"), "count": 4}]
     wants("an object of a shared email", (status, [json.loads(line) for line in printed.splitlines()], said), 0, want, b"")
     Path("c").write_bytes(b"Ann Lee <a@x>\nplain\nLee, Ann <b@x>\nLee, Ann <b@x>\n")
     status, printed, said = run(program, ["-f", "json", "-e", "no-contact", "--contacts", "c"])
     want = [{"file": text("c"), "line": 1, "level": "note", "kind": "similar-name",
-             "message": text("Ann Lee <a@x> (1) has a name like Lee, Ann <b@x> (2)"), "at": {"file": text("c"), "line": 3}}]
+             "message": text("Ann Lee <a@x> (1) has a name like Lee, Ann <b@x> (2)"), "at": {"file": text("c"), "line": 3},
+             **named("Ann Lee", "a@x", 1), "beside": named("Lee, Ann", "b@x", 2)}]
     wants("an object of a similar name", (status, [json.loads(line) for line in printed.splitlines()], said), 0, want, b"")
     Path("c").write_bytes(b"")
     Path("team").write_bytes(b"N <a@x>\n")
@@ -513,6 +526,9 @@ def main():
         alike_count = look_alikes(program)
         filters(program)
         objects(program)
+        annotations(program)
+        fields(program)
+        in_place(program)
         os.chdir("/")
     print(f"{count} stored mailmaps and {hostile_count} hostile ones, contacts of {explained_count} histories")
     print(f"{mark_count} mailmaps with and without byte order marks and names like comments")

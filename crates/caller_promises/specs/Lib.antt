@@ -3,3 +3,4 @@ pub mod Calls
 pub mod Pruned
 pub mod Listings
 pub mod Suggested
+pub mod Shelf

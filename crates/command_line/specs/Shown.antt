@@ -1,5 +1,5 @@
--- Escapes for what a terminal takes for control.
-use Rattle.std.specs.Prelude.{ℕ, ◌/◌, ◌%◌, nat_lt, Bool, true, false, ◌||◌, ◌&&◌, if◌then◌else◌, List, [], ◌∷◌, ◌++◌, take, drop, Option, Some, None, codes, slice_index}
+-- Escapes for what a terminal, or GitHub in a log, takes for control.
+use Rattle.std.specs.Prelude.{ℕ, ◌/◌, ◌%◌, ◌==◌, nat_lt, Bool, true, false, ◌||◌, ◌&&◌, if◌then◌else◌, List, [], ◌∷◌, ◌++◌, take, drop, Option, Some, None, codes, slice_index}
 use Rattle.std.specs.List.{flat_map}
 use Rattle.bstr.specs.Utf8.{Decoded, pieces}
 use Rattle.ucd_category.specs.GeneralCategory.{general_category}
@@ -17,9 +17,9 @@ hex_byte byte = hex_digit (byte / 16) ∷ hex_digit (byte % 16) ∷ []
 abbrev pub is_control : ℕ → Bool
 is_control code = nat_lt code 32 || (nat_lt 126 code && nat_lt code 160)
 
--- a byte that isn't printable ASCII
+-- a byte that isn't printable ASCII, or `#`
 abbrev pub is_special : ℕ → Bool
-is_special byte = nat_lt byte 32 || nat_lt 126 byte
+is_special byte = nat_lt byte 32 || (nat_lt 126 byte || byte == 35)
 
 -- a character that can't be seen, or that turns the direction of text: one of the general categories Cf, Zl and Zp
 abbrev pub is_hidden_category : GeneralCategory → Bool
@@ -31,9 +31,13 @@ is_hidden_category _ = false
 abbrev pub is_hidden : ℕ → Bool
 is_hidden char = is_hidden_category (general_category char)
 
--- a control byte becomes `\x` and two hexadecimal digits
+-- `\x` and two hexadecimal digits
+abbrev pub escaped_byte : ℕ → List ℕ
+escaped_byte byte = 92 ∷ 120 ∷ hex_byte byte
+
+-- a control byte is escaped
 abbrev pub shown_byte : ℕ → List ℕ
-shown_byte byte = if is_control byte then 92 ∷ 120 ∷ hex_byte byte else byte ∷ []
+shown_byte byte = if is_control byte then escaped_byte byte else byte ∷ []
 
 -- the last four hexadecimal digits of a code point
 abbrev pub last_four : ℕ → List ℕ
@@ -45,16 +49,25 @@ shown_code code = if nat_lt code 65536 then 92 ∷ 117 ∷ last_four code
     else 92 ∷ 85 ∷ 48 ∷ 48 ∷ hex_byte (code / 65536 % 256) ++ last_four code
 
 -- A character above 127 that controls, or that is hidden, is shown by its number. In ASCII, and outside of characters,
--- control bytes are escaped.
-abbrev pub shown_piece : Option ℕ → List ℕ → List ℕ
-shown_piece None bytes = flat_map shown_byte bytes
-shown_piece (Some char) bytes = if nat_lt char 128 then flat_map shown_byte bytes
+-- control bytes are escaped, and so is `[` after `##`, which GitHub takes for the beginning of a command.
+abbrev pub shown_piece : Bool → Option ℕ → List ℕ → List ℕ
+shown_piece after_two None bytes = flat_map shown_byte bytes
+shown_piece after_two (Some char) bytes = if after_two && char == 91 then escaped_byte 91
+    else if nat_lt char 128 then flat_map shown_byte bytes
     else if is_control char || is_hidden char then shown_code char else bytes
 
--- a text that begins with these pieces, one after another
-abbrev pub shown_pieces : List Decoded → List ℕ → List ℕ
-shown_pieces [] text = []
-shown_pieces (p ∷ ps) text = shown_piece p.char (take p.size text) ++ shown_pieces ps (drop p.size text)
+abbrev pub is_hash : Option ℕ → Bool
+is_hash None = false
+is_hash (Some char) = char == 35
+
+-- a text that begins with these pieces, one after another, after one `#` or after two
+abbrev pub shown_pieces : Bool → Bool → List Decoded → List ℕ → List ℕ
+shown_pieces after_one after_two [] text = []
+shown_pieces after_one after_two (p ∷ ps) text = shown_piece after_two p.char (take p.size text)
+    ++ shown_pieces (is_hash p.char) (after_one && is_hash p.char) ps (drop p.size text)
+
+abbrev pub shown_after : Bool → Bool → List ℕ → List ℕ
+shown_after after_one after_two text = shown_pieces after_one after_two (pieces text) text
 
 abbrev pub shown : List ℕ → List ℕ
-shown text = shown_pieces (pieces text) text
+shown text = shown_after false false text

@@ -1,14 +1,15 @@
 -- Findings in mailmaps and contacts in words.
-use Rattle.std.specs.Prelude.{◌≡◌, ◌++◌, ◌⊎◌, ◌∷◌, ℕ, List, [], Option, None, Some, length, map}
+use Rattle.std.specs.Prelude.{◌≡◌, ◌++◌, ◌⊎◌, ◌∷◌, ℕ, List, [], Option, None, Some, length, map, unwrap_or}
 use Rattle.mailmap_entries.specs.Folding.{Text}
 use Rattle.mailmap_findings.specs.Findings.{AreFindings, Finding}
 use Rattle.mailmap_findings.specs.Positions.{whole_lines}
 use Rattle.mailmap_findings.specs.Remarks.{AreRemarks, Remark}
-use Rattle.mailmap_report.specs.Json.{FileLine, Notice}
+use Rattle.mailmap_report.specs.Json.{FileLine, Named, Notice, no_name}
 use Rattle.mailmap_report.specs.Kinds.{kind_level, kind_name, level_name}
 use Rattle.mailmap_report.specs.Report.{contact_notice, finding_notice, remark_notice}
 use Rattle.mailmap_suggestions.specs.ContactFindings.{AreContactFindings, ContactFinding}
 use Rattle.gix_mailmap_c.specs.Buffers.{ArePut, IsOutOfMemory}
+use Rattle.gix_mailmap_c.specs.declared.notices.Mention.{Mention}
 use Rattle.gix_mailmap_c.specs.declared.notices.Noticed.{Noticed}
 use Rattle.gix_mailmap_c.specs.declared.notices.Words as declared
 use Rattle.gix_mailmap_c.specs.declared.parsing.Place.{Place}
@@ -24,6 +25,21 @@ other_line (Some other) = other.line
 -- the place of a text that begins at this offset
 abbrev pub placed : ℕ → Text → Place
 placed start text = record { start = start; len = length text }
+
+-- a buffer of texts with a name, and with a name and an email
+abbrev pub with_name : Text → Named → Text
+with_name texts n = texts ++ unwrap_or n.name []
+
+abbrev pub with_both : Text → Named → Text
+with_both texts n = with_name texts n ++ unwrap_or n.email []
+
+-- the places that they have there
+abbrev pub mention : Text → Named → Mention
+mention texts n = record {
+  name = placed (length texts) (unwrap_or n.name []);
+  email = placed (length (with_name texts n)) (unwrap_or n.email []);
+  count = unwrap_or n.count 0;
+}
 
 -- findings in words, and the buffer of their texts
 pub record Words : Type 0 where
@@ -50,6 +66,12 @@ with_kind texts n = with_level texts n ++ kind_name n.kind
 abbrev pub with_message : Text → Notice → Text
 with_message texts n = with_kind texts n ++ n.message
 
+abbrev pub with_other : Text → Notice → Text
+with_other texts n = with_message texts n ++ other_file n.other
+
+abbrev pub with_named : Text → Notice → Text
+with_named texts n = with_both (with_other texts n) n.named
+
 -- one finding more: its texts follow those that are there
 abbrev pub with_notice : Words → Notice → Words
 with_notice w n = record {
@@ -61,8 +83,10 @@ with_notice w n = record {
     kind = placed (length (with_level w.texts n)) (kind_name n.kind);
     message = placed (length (with_kind w.texts n)) n.message;
     other_file = placed (length (with_message w.texts n)) (other_file n.other);
+    named = mention (with_other w.texts n) n.named;
+    beside = mention (with_named w.texts n) (unwrap_or n.beside no_name);
   } ∷ [];
-  texts = with_message w.texts n ++ other_file n.other;
+  texts = with_both (with_named w.texts n) (unwrap_or n.beside no_name);
 }
 
 abbrev pub with_notices : Words → List Notice → Words

@@ -1,5 +1,5 @@
 -- Calls on several mailmaps, whose names and texts are in two buffers.
-use Rattle.std.specs.Prelude.{◌≡◌, ◌==◌, ℕ, if◌then◌else◌, List, [], ◌∷◌, Some, drop, map, take}
+use Rattle.std.specs.Prelude.{◌≡◌, ◌==◌, ℕ, if◌then◌else◌, List, [], ◌∷◌, Option, None, Some, drop, map, take}
 use Rattle.mailmap_entries.specs.Folding.{Text}
 use Rattle.mailmap_findings.specs.Findings.{AreFindings, Finding}
 use Rattle.mailmap_findings.specs.Needs.{AreUnneeded}
@@ -8,7 +8,8 @@ use Rattle.mailmap_findings.specs.Remarks.{AreRemarks, Remark}
 use Rattle.mailmap_redundancy.specs.declared.located.Position as library
 use Rattle.mailmap_report.specs.Report.{pieces_beside, report, text_of}
 use Rattle.mailmap_report.specs.Settings.{Choices, no_choices}
-use Rattle.mailmap_report.specs.declared.settings.Format.TheVariants.{Json}
+use Rattle.mailmap_report.specs.declared.settings.Format.{Format}
+use Rattle.mailmap_report.specs.declared.settings.Format.TheVariants.{Github, Json}
 use Rattle.mailmap_suggestions.specs.ContactFindings.{AreContactFindings, ContactFinding}
 use Rattle.gix_mailmap_c.specs.declared.several.Lengths.{Lengths}
 use Rattle.gix_mailmap_c.specs.declared.several.Position.{Position}
@@ -24,9 +25,13 @@ names_in lengths names = cut_by (map (λ l. l.name) lengths) names
 abbrev pub texts_in : List Lengths → Text → List Text
 texts_in lengths texts = cut_by (map (λ l. l.text) lengths) texts
 
--- all findings are reported: as objects of JSON in the format 1, otherwise as lines
+-- the format of this number: without one, findings are lines
+abbrev pub format_in : ℕ → Option Format
+format_in format = if format == 1 then Some Json else if format == 2 then Some Github else None
+
+-- all findings are reported
 abbrev pub choices_in : ℕ → Choices
-choices_in format = if format == 1 then record no_choices { format = Some Json } else no_choices
+choices_in format = record no_choices { format = format_in format }
 
 -- the report has a line or an object for each finding in the mailmaps, in order, and nothing else
 pub record IsReportOf (choices : Choices) (names mailmaps : List Text) (text : Text) : Type 0 where

@@ -16,8 +16,8 @@ use std::alloc::{AllocError, Global};
 /// A finding. `line` counts from 1. If the line has no effect, `beside` is the last line with an effect for the same old
 /// name and old email; otherwise it is 0.
 ///
-/// `kind` is 1 to 5 for the faults, in the order of [`Error`], 6 for ignored text, 7 for no effect, 8 for a contact
-/// that is itself mapped, and 9 for a line that git reads in another way.
+/// `kind` is a number of `gix_mailmap_kind` in the header: 1 to 5 for the faults, in the order of [`Error`], and more for
+/// the others.
 #[repr(C)]
 #[derive(Clone, Copy)]
 pub struct Finding {

@@ -1,14 +1,18 @@
 -- What is reported at a line, as JSON.
 use Rattle.std.specs.Prelude.{◌++◌, ℕ, Bool, true, false, [], ◌∷◌, Option, Some, None, codes}
-use Rattle.std.specs.Option.{option_map}
+use Rattle.std.specs.Option.{option_copied, option_map}
 use Rattle.std.specs.Str.{is_utf8}
+use Rattle.bstr.specs.Text.{replaced_at}
+use Rattle.memchr.specs.Find.{matches}
 use Rattle.base64.specs.Engines.{standard}
 use Rattle.base64.specs.GeneralPurpose.{encode_of}
-use Rattle.serde_json.specs.Data.{Data, Members, member, no_members, number, object, string, unsigned}
+use Rattle.serde_json.specs.Data.{Data, Members, member, no_members, number, object, put, string, unsigned}
 use Rattle.serde_json.specs.Written.{compact_text}
 use Rattle.mailmap_entries.specs.Folding.{Text}
+use Rattle.mailmap_report.specs.Escapes.{escaped_json}
 use Rattle.mailmap_report.specs.Kinds.{kind_level, kind_name, level_name}
 use Rattle.mailmap_report.specs.declared.kinds.Kind.{Kind}
+use Rattle.mailmap_report.specs.declared.notice.Named.{Named as TheNamed}
 use Rattle.mailmap_report.specs.declared.notice.Notice.{Notice as the_notice}
 use Rattle.mailmap_report.specs.declared.places.Place.{Place}
 
@@ -22,12 +26,27 @@ pub record FileLine : Type 0 where
 abbrev pub file_line_of : Place → FileLine
 file_line_of p = record { file = p.file.now; line = p.line }
 
--- what is reported at a line; `other` is the other line that the message refers to
+-- what a message names: a name and an email, each if it is there, and how often they come
+pub record Named : Type 0 where
+  pub name : Option Text
+  pub email : Option Text
+  pub count : Option ℕ
+
+abbrev pub no_name : Named
+no_name = record { name = None; email = None; count = None }
+
+-- the specification's view of what is named
+abbrev pub named_of : TheNamed → Named
+named_of n = record { name = option_copied n.name; email = option_copied n.email; count = n.count }
+
+-- what is reported at a line; `other` is the other line that the message refers to, and `beside` what it names second
 pub record Notice : Type 0 where
   pub kind : Kind
   pub place : FileLine
   pub message : Text
   pub other : Option FileLine
+  pub named : Named
+  pub beside : Option Named
 
 -- the specification's view of a notice
 abbrev pub notice_of : the_notice → Notice
@@ -36,6 +55,8 @@ notice_of n = record {
   place = file_line_of n.place;
   message = n.message.items;
   other = option_map file_line_of n.other;
+  named = named_of n.named;
+  beside = option_map named_of n.beside;
 }
 
 -- ---- objects
@@ -65,10 +86,32 @@ members n = member (codes "file") (text_data n.place.file) (member (codes "kind"
 -- and the line that it refers to, if any
 abbrev pub with_other : Option FileLine → Members → Members
 with_other None ms = ms
-with_other (Some other) ms = member (codes "at") (place_data other) ms
+with_other (Some other) ms = put (codes "at") (place_data other) ms
+
+-- and a name or an email, if there is one
+abbrev pub with_text : Text → Option Text → Members → Members
+with_text key None ms = ms
+with_text key (Some text) ms = put key (text_data text) ms
+
+abbrev pub with_count : Option ℕ → Members → Members
+with_count None ms = ms
+with_count (Some count) ms = put (codes "count") (number (unsigned count)) ms
+
+abbrev pub with_named : Named → Members → Members
+with_named n ms = with_count n.count (with_text (codes "email") n.email (with_text (codes "name") n.name ms))
+
+-- and what the message names second, if any
+abbrev pub with_beside : Option Named → Members → Members
+with_beside None ms = ms
+with_beside (Some n) ms = put (codes "beside") (object (with_named n no_members)) ms
 
 abbrev pub object_data : Notice → Data
-object_data n = object (with_other n.other (members n))
+object_data n = object (with_beside n.beside (with_named n.named (with_other n.other (members n))))
+
+-- GitHub takes `##[` anywhere in a line for a command. Only strings in an object can hold it, and may have the number of
+-- a character in place of it.
+abbrev pub without_commands : Text → Text
+without_commands text = replaced_at text 3 (codes "##" ++ 92 ∷ codes "u005b") 0 (matches text (codes "##[") 0)
 
 abbrev pub object_line : Notice → Text
-object_line n = compact_text (object_data n) ++ 10 ∷ []
+object_line n = escaped_json (without_commands (compact_text (object_data n))) ++ 10 ∷ []

@@ -1,5 +1,7 @@
 pub mod Alike
 pub mod Explained
+pub mod Github
+pub mod Escapes
 pub mod Json
 pub mod Kinds
 pub mod Report

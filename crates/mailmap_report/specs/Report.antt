@@ -1,8 +1,7 @@
 -- The report of mailmaps and of contacts.
-use Rattle.std.specs.Prelude.{ℕ, ◌-◌, nat_lt, Bool, ◌&&◌, if◌then◌else◌, is_some, length, take, drop, ◌++◌, codes, ◌≡◌, ◌==◌, ◌||◌, true, false, List, [], ◌∷◌, Option, Some, None, decimal, map, option_to_list, slice_index_or, unwrap_or}
-use Rattle.bstr.specs.Utf8.{decoded}
+use Rattle.std.specs.Prelude.{ℕ, Bool, if◌then◌else◌, ◌++◌, codes, ◌==◌, ◌||◌, true, false, List, [], ◌∷◌, Option, Some, None, decimal, drop, map, option_to_list, slice_index_or, unwrap_or}
 use Rattle.mailmap_entries.specs.Folding.{Text}
-use Rattle.std.specs.List.{flat_map, list_any}
+use Rattle.std.specs.List.{flat_map, list_any, starts_with}
 use Rattle.std.specs.Option.{option_map}
 use Rattle.mailmap_grammar.specs.Lines.{FaultKind, is_comment, no_email, missing_closing_bracket, empty_email, nothing_to_map, unclosed_second}
 use Rattle.mailmap_grammar.specs.CanonicalText.{bracketed_email, email_part, name_part}
@@ -10,14 +9,16 @@ use Rattle.mailmap_entries.specs.Entries.{Mapping}
 use Rattle.mailmap_findings.specs.Findings.{NewContact, Finding, FindingKind, byte_order_mark, comment_in_line, fault, ignored_text, git_reads, no_effect, itself_mapped}
 use Rattle.mailmap_findings.specs.Git.{GitReading, Nothing, Entry, Lines}
 use Rattle.mailmap_redundancy.specs.declared.located.Position.{Position}
-use Rattle.command_line.specs.Shown.{shown}
+use Rattle.command_line.specs.Shown.{escaped_byte, shown}
 use Rattle.mailmap_report.specs.Alike.{alike_text}
-use Rattle.mailmap_report.specs.Json.{FileLine, Notice, object_line}
+use Rattle.mailmap_report.specs.Github.{annotation_line}
+use Rattle.mailmap_report.specs.Json.{FileLine, Named, Notice, no_name, object_line}
 use Rattle.mailmap_report.specs.Kinds.{finding_kind, kind_level, kind_name, level_name, contact_kind}
-use Rattle.mailmap_report.specs.Settings.{Choices, counts, is_json, is_reported}
+use Rattle.mailmap_report.specs.Settings.{Choices, counts, format_of, is_reported}
+use Rattle.mailmap_report.specs.declared.settings.Format.{Format}
+use Rattle.mailmap_report.specs.declared.settings.Format.TheVariants.{Gcc, Github, Json}
 use Rattle.mailmap_report.specs.declared.pieces.Piece.{Piece as the_piece}
 use Rattle.mailmap_contacts.specs.Contacts.{Tally}
-use Rattle.mailmap_snapshot.specs.Contacts.{contact_line}
 use Rattle.mailmap_suggestions.specs.ContactFindings.{ContactFinding, first_line_of, git_answers, is_like, no_contact, shared_email}
 use Rattle.mailmap_suggestions.specs.declared.findings.Likeness.{Likeness}
 use Rattle.mailmap_suggestions.specs.declared.findings.Likeness.TheVariants.{AlikeName, Email, Login, Name}
@@ -105,6 +106,32 @@ referred_line paths (no_effect beside is_same) = Some (place_at paths beside.buf
 referred_line paths (itself_mapped c to line second) = Some (place_at paths line.buffer line.line)
 referred_line paths _ = None
 
+-- ---- the names, emails and numbers that findings have
+
+abbrev pub named_contact : NewContact → Named
+named_contact c = record { name = c.name; email = Some c.email; count = None }
+
+-- of what git reads, the new name and email, or the number of lines
+abbrev pub named_by_git : GitReading → Named
+named_by_git Nothing = no_name
+named_by_git (Entry e) = record { name = e.new_name; email = e.new_email; count = None }
+named_by_git (Lines count) = record { name = None; email = None; count = Some count }
+
+-- and the old ones
+abbrev pub beside_by_git : GitReading → Option Named
+beside_by_git (Entry e) = Some (record { name = e.old_name; email = Some e.old_email; count = None })
+beside_by_git _ = None
+
+abbrev pub named_in : FindingKind → Named
+named_in (git_reads reading) = named_by_git reading
+named_in (itself_mapped c to line second) = named_contact c
+named_in _ = no_name
+
+abbrev pub beside_in : FindingKind → Option Named
+beside_in (git_reads reading) = beside_by_git reading
+beside_in (itself_mapped c to line second) = Some (named_contact to)
+beside_in _ = None
+
 -- ---- notices of findings
 
 abbrev pub finding_notice : List Text → Finding → Notice
@@ -113,6 +140,8 @@ finding_notice paths f = record {
   place = place_at paths f.position.buffer f.position.line;
   message = message_text paths f.kind;
   other = referred_line paths f.kind;
+  named = named_in f.kind;
+  beside = beside_in f.kind;
 }
 
 -- a notice, before escapes
@@ -120,9 +149,14 @@ abbrev pub notice_text : Notice → Text
 notice_text n = place_text n.place ++ codes ": " ++ level_name (kind_level n.kind) ++ codes ": "
     ++ n.message ++ codes " [" ++ kind_name n.kind ++ codes "]"
 
+-- GitHub takes `::` at the beginning of a line for a command: then the first `:` is escaped.
+unfoldable pub shown_from_start : Text → Text
+shown_from_start text = if starts_with (λ a b. a == b) text (codes "::")
+    then (escaped_byte 58 ++ 58 ∷ []) ++ shown (drop 2 text) else shown text
+
 -- a line of output with escapes
 abbrev pub shown_line : Text → Text
-shown_line text = shown text ++ 10 ∷ []
+shown_line text = shown_from_start text ++ 10 ∷ []
 
 -- ---- output in pieces, some of which are findings that count
 
@@ -140,9 +174,14 @@ text_of pieces = flat_map (λ p. p.text) pieces
 
 -- ---- the report
 
--- a line or an object, as the format asks for; nothing if the kind is not reported
+abbrev pub formatted : Format → Notice → Text
+formatted Gcc n = shown_line (notice_text n)
+formatted Json n = object_line n
+formatted Github n = annotation_line n
+
+-- as the format asks for; nothing if the kind is not reported
 abbrev pub reported_text : Choices → Notice → Text
-reported_text c n = if is_reported c n.kind then (if is_json c then object_line n else shown_line (notice_text n)) else []
+reported_text c n = if is_reported c n.kind then formatted (format_of c) n else []
 
 abbrev pub notice_piece : Choices → Notice → Piece
 notice_piece c n = record { text = reported_text c n; counts = counts c n.kind }
@@ -185,6 +224,19 @@ abbrev pub compared_line : Text → ContactFinding → Option FileLine
 compared_line file (is_like likeness a p) = Some (record { file = file; line = p.seen.first_line })
 compared_line file _ = None
 
+abbrev pub named_tally : Tally → Named
+named_tally a = record { name = Some a.contact.name; email = Some a.contact.email; count = Some a.seen.count }
+
+abbrev pub named_contact_in : ContactFinding → Named
+named_contact_in (no_contact line) = no_name
+named_contact_in (shared_email email seen) = record { name = None; email = Some email; count = Some seen.count }
+named_contact_in (is_like likeness a p) = named_tally a
+named_contact_in (git_answers a) = named_tally a
+
+abbrev pub compared_contact : ContactFinding → Option Named
+compared_contact (is_like likeness a p) = Some (named_tally p)
+compared_contact _ = None
+
 -- `file` is the name of the file of contacts
 abbrev pub contact_notice : Text → ContactFinding → Notice
 contact_notice file f = record {
@@ -192,6 +244,8 @@ contact_notice file f = record {
   place = record { file = file; line = first_line_of f };
   message = contact_words f;
   other = compared_line file f;
+  named = named_contact_in f;
+  beside = compared_contact f;
 }
 
 -- ---- the report with contacts
@@ -203,6 +257,8 @@ remark_notice paths (remark_unneeded p) = record {
   place = place_at paths p.buffer p.line;
   message = codes "no contact needs it";
   other = None;
+  named = no_name;
+  beside = None;
 }
 
 -- the remarks on the mailmaps, and after them the findings about the contacts

@@ -1,11 +1,11 @@
 -- Which findings are reported, how, and which of them count for the exit status.
-use Rattle.std.specs.Prelude.{◌&&◌, ℕ, Bool, false, true, nat_le, List, [], ◌∷◌, Option, Some, None, codes, not, option_to_list, unwrap_or}
+use Rattle.std.specs.Prelude.{◌&&◌, ℕ, Bool, nat_le, List, [], ◌∷◌, Option, None, codes, not, option_to_list, unwrap_or}
 use Rattle.std.specs.List.{list_any}
 use Rattle.std.specs.Option.{option_map}
 use Rattle.mailmap_entries.specs.Folding.{Text}
 use Rattle.mailmap_report.specs.Kinds.{kind_level, same_kind}
 use Rattle.mailmap_report.specs.declared.settings.Format.{Format}
-use Rattle.mailmap_report.specs.declared.settings.Format.TheVariants.{Json}
+use Rattle.mailmap_report.specs.declared.settings.Format.TheVariants.{Gcc}
 use Rattle.mailmap_report.specs.declared.settings.Settings.{Settings}
 use Rattle.mailmap_report.specs.declared.kinds.Kind.{Kind}
 use Rattle.mailmap_report.specs.declared.kinds.Level.{Level}
@@ -47,12 +47,9 @@ is_reported c kind = reaches (kind_level kind) (unwrap_or c.severity Note) && no
 abbrev pub counts : Choices → Kind → Bool
 counts c kind = is_reported c kind && reaches (kind_level kind) (unwrap_or c.severity Warning)
 
-abbrev pub is_json_format : Option Format → Bool
-is_json_format (Some Json) = true
-is_json_format _ = false
-
-abbrev pub is_json : Choices → Bool
-is_json c = is_json_format c.format
+-- how they are printed
+abbrev pub format_of : Choices → Format
+format_of c = unwrap_or c.format Gcc
 
 -- ---- names in messages
 

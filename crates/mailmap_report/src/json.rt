@@ -1,15 +1,19 @@
 //! Notices as JSON.
-ghost use Rattle.std.specs.Prelude.{◌≡◌, codes, IfOk};
+ghost use Rattle.std.specs.Prelude.{◌≡◌, codes, IfOk, OnOk};
+ghost use Rattle.std.specs.Option.{option_copied, option_map};
 ghost use Rattle.base64.specs.Engines.{standard};
 ghost use Rattle.base64.specs.GeneralPurpose.{encode_of};
 ghost use Rattle.serde_json.specs.Data.{member, no_members, object, string};
-ghost use Rattle.serde_json.specs.View.{view};
-ghost use Rattle.mailmap_report.specs.Json.{file_line_of, notice_of, object_data, object_line, place_data, text_data};
+ghost use Rattle.serde_json.specs.View.{members_view, view};
+ghost use Rattle.mailmap_report.specs.Json.{file_line_of, members, named_of, notice_of, object_data, object_line, place_data, text_data};
+ghost use Rattle.mailmap_report.specs.Json.{with_beside, with_named, with_other, with_text};
 
-use crate::notice::Notice;
+use crate::escapes::push_escaped_json;
+use crate::notice::{Named, Notice};
 use crate::places::Place;
 use base64::engine::general_purpose::STANDARD;
-use serde_json::{Value, json};
+use bstr::ByteSlice;
+use serde_json::{Map, ToValue, Value, json, put};
 use std::alloc::{AllocError, Global};
 use std::str;
 
@@ -19,13 +23,18 @@ use std::str;
 /// {"file":{"text":"a"},"kind":"no-email","level":"error","line":3,"message":{"text":"no email in brackets"}}
 /// ```
 ///
-/// The other line that the message refers to becomes the member `at`. Nothing is escaped but for JSON.
+/// The other line that the message refers to becomes the member `at`. What the message names becomes the members `name`,
+/// `email` and `count`, and what it names second those of the member `beside`. Nothing is escaped but for JSON; `[`
+/// after `##`, which GitHub would take for a command; and what controls a terminal or can't be seen.
 #[tactic(auto, using(crate::proofs::Objects::no_float))]
 pub(crate) fn object_line(alloc: Global, notice: &Notice<'_>) -> Result<Vec<u8>, AllocError>
     ensures { IfOk result (λ line. line.items ≡ object_line (notice_of notice.now)) }
 {
     let value = object_value(alloc, notice)?;
-    let mut line = value.to_string(alloc)?.into_bytes();
+    let text = value.to_string(alloc)?;
+    let text = text.as_bytes().replace(alloc, b"##[", b"##\\u005b")?;
+    let mut line = Vec::new(alloc);
+    push_escaped_json(&mut line, &text)?;
     line.push(b'\n')?;
     Ok(line)
 }
@@ -33,22 +42,99 @@ pub(crate) fn object_line(alloc: Global, notice: &Notice<'_>) -> Result<Vec<u8>,
 fn object_value(alloc: Global, notice: &Notice<'_>) -> Result<Value, AllocError>
     ensures { IfOk result (λ value. view value ≡ object_data (notice_of notice.now)) }
 {
-    let file = text_value(alloc, notice.place.file)?;
+    let mut map = members(alloc, notice)?;
+    put_other(&mut map, alloc, notice.other)?;
+    put_named(&mut map, alloc, notice.named)?;
+    put_beside(&mut map, alloc, notice.beside)?;
+    Ok(Value::Object(map))
+}
+
+// The members of each notice.
+fn members(alloc: Global, notice: &Notice<'_>) -> Result<Map<String, Value>, AllocError>
+    ensures { IfOk result (λ map. members_view map.entries ≡ members (notice_of notice.now)) }
+{
+    let mut map = Map::new(alloc);
+    let level = notice.kind.level().name().to_value(alloc)?;
+    let kind = notice.kind.name().to_value(alloc)?;
+    put(
+        &mut map,
+        alloc,
+        "file",
+        text_value(alloc, notice.place.file)?,
+    )?;
+    put(&mut map, alloc, "kind", kind)?;
+    put(&mut map, alloc, "level", level)?;
+    put(
+        &mut map,
+        alloc,
+        "line",
+        Value::from(notice.place.line as u64),
+    )?;
     let message = text_value(alloc, notice.message.as_slice())?;
-    let line = notice.place.line as u64;
-    let level = notice.kind.level().name();
-    let kind = notice.kind.name();
-    match notice.other {
-        Some(other) => {
-            let at = place_value(alloc, other)?;
-            json!(in alloc; {
-                "file": file, "line": line, "level": level, "kind": kind, "message": message, "at": at
-            })
-        }
-        None => json!(in alloc; {
-            "file": file, "line": line, "level": level, "kind": kind, "message": message
-        }),
-    }
+    put(&mut map, alloc, "message", message)?;
+    Ok(map)
+}
+
+fn put_other(
+    map: &mut Map<String, Value>,
+    alloc: Global,
+    other: Option<Place<'_>>,
+) -> Result<(), AllocError>
+    ensures { OnOk result (members_view map.new.entries
+        ≡ with_other (option_map file_line_of other.entry) (members_view map.old.entries)) }
+{
+    let Some(other) = other else {
+        return Ok(());
+    };
+    put(map, alloc, "at", place_value(alloc, other)?)
+}
+
+fn put_beside(
+    map: &mut Map<String, Value>,
+    alloc: Global,
+    beside: Option<Named<'_>>,
+) -> Result<(), AllocError>
+    ensures { OnOk result (members_view map.new.entries
+        ≡ with_beside (option_map named_of beside.entry) (members_view map.old.entries)) }
+{
+    let Some(beside) = beside else {
+        return Ok(());
+    };
+    let mut inner = Map::new(alloc);
+    put_named(&mut inner, alloc, beside)?;
+    put(map, alloc, "beside", Value::Object(inner))
+}
+
+// Puts a name, an email and a number into an object, as far as they are there.
+fn put_named(
+    map: &mut Map<String, Value>,
+    alloc: Global,
+    named: Named<'_>,
+) -> Result<(), AllocError>
+    ensures { OnOk result (members_view map.new.entries
+        ≡ with_named (named_of named.entry) (members_view map.old.entries)) }
+{
+    put_text(map, alloc, "name", named.name)?;
+    put_text(map, alloc, "email", named.email)?;
+    let Some(count) = named.count else {
+        return Ok(());
+    };
+    put(map, alloc, "count", Value::from(count as u64))
+}
+
+fn put_text(
+    map: &mut Map<String, Value>,
+    alloc: Global,
+    key: &str,
+    text: Option<&[u8]>,
+) -> Result<(), AllocError>
+    ensures { OnOk result (members_view map.new.entries
+        ≡ with_text key.now (option_copied text.entry) (members_view map.old.entries)) }
+{
+    let Some(text) = text else {
+        return Ok(());
+    };
+    put(map, alloc, key, text_value(alloc, text)?)
 }
 
 fn place_value(alloc: Global, place: Place<'_>) -> Result<Value, AllocError>

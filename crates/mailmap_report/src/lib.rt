@@ -3,7 +3,9 @@
 #![tactic(auto)]
 
 mod alike;
+mod escapes;
 pub mod explanation;
+mod github;
 mod json;
 pub mod kinds;
 mod message;

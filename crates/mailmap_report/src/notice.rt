@@ -3,11 +3,16 @@ ghost use Rattle.std.specs.Prelude.{◌≡◌, ◌++◌, IfOk, OnOk};
 ghost use Rattle.std.specs.Option.{option_map};
 ghost use Rattle.command_line.specs.Files.{texts};
 ghost use Rattle.mailmap_contacts.specs.Answers.{tally_of};
-ghost use Rattle.mailmap_findings.specs.Findings.{finding_of, kind_of};
+ghost use Rattle.mailmap_findings.specs.Findings.{contact_of, finding_of, kind_of};
+ghost use Rattle.mailmap_findings.specs.Git.{git_reading_of};
 ghost use Rattle.mailmap_findings.specs.Remarks.{remark_of};
 ghost use Rattle.mailmap_report.specs.Report.{compared_line, contact_notice, contact_words, count_text, counted_contact};
 ghost use Rattle.mailmap_report.specs.Report.{finding_notice, likeness_text, place_at, referred_line, remark_notice};
-ghost use Rattle.mailmap_report.specs.Json.{file_line_of, notice_of};
+ghost use Rattle.mailmap_report.specs.Report.{beside_by_git as spec_beside_by_git, beside_in as spec_beside_in};
+ghost use Rattle.mailmap_report.specs.Report.{compared_contact as spec_compared_contact, named_by_git as spec_named_by_git};
+ghost use Rattle.mailmap_report.specs.Report.{named_contact as spec_named_contact, named_contact_in as spec_named_contact_in};
+ghost use Rattle.mailmap_report.specs.Report.{named_in as spec_named_in, named_tally as spec_named_tally};
+ghost use Rattle.mailmap_report.specs.Json.{file_line_of, named_of, notice_of};
 ghost use Rattle.mailmap_suggestions.specs.ContactFindings.{first_line_of};
 ghost use Rattle.mailmap_suggestions.specs.FindingViews.{finding_view};
 
@@ -18,7 +23,7 @@ use crate::places::{Place, place_at};
 use itoa::Buffer;
 use mailmap_contacts::answers::Tally;
 use mailmap_findings::remarks::Remark;
-use mailmap_findings::verify::{Finding, FindingKind, Position};
+use mailmap_findings::verify::{Contact, Finding, FindingKind, GitReading, Position};
 use mailmap_suggestions::findings::{ContactFinding, Likeness};
 use mailmap_suggestions::shortened::{push_short_contact, push_shortened};
 use std::alloc::{AllocError, Global};
@@ -32,13 +37,32 @@ pub struct Notice<'a> {
     pub message: Vec<u8>,
     /// The other line that the message refers to.
     pub other: Option<Place<'a>>,
+    /// What the message names, whole even if it is cut there.
+    pub named: Named<'a>,
+    /// What it names second.
+    pub beside: Option<Named<'a>>,
 }
+
+/// A name, an email and a number, each if a message has it. The number says how often they come.
+#[derive(Clone, Copy)]
+pub struct Named<'a> {
+    pub name: Option<&'a [u8]>,
+    pub email: Option<&'a [u8]>,
+    pub count: Option<usize>,
+}
+
+/// Of a message that names nothing.
+pub const NO_NAME: Named<'static> = Named {
+    name: None,
+    email: None,
+    count: None,
+};
 
 /// The notice of a finding in mailmaps with these names.
 pub fn finding_notice<'n>(
     alloc: Global,
     names: &'n [Vec<u8>],
-    finding: &Finding<'_>,
+    finding: &Finding<'n>,
 ) -> Result<Notice<'n>, AllocError>
     ensures { IfOk result (λ notice. notice_of notice ≡ finding_notice (texts names.now) (finding_of finding.now)) }
 {
@@ -49,6 +73,8 @@ pub fn finding_notice<'n>(
         place: place_at(names, finding.position),
         message,
         other: referred_line(names, &finding.kind),
+        named: named_in(&finding.kind),
+        beside: beside_in(&finding.kind),
     })
 }
 
@@ -56,7 +82,7 @@ pub fn finding_notice<'n>(
 pub fn remark_notice<'n>(
     alloc: Global,
     names: &'n [Vec<u8>],
-    remark: &Remark<'_>,
+    remark: &Remark<'n>,
 ) -> Result<Notice<'n>, AllocError>
     ensures { IfOk result (λ notice. notice_of notice ≡ remark_notice (texts names.now) (remark_of remark.now)) }
 {
@@ -67,6 +93,8 @@ pub fn remark_notice<'n>(
             place: place_at(names, *position),
             message: Vec::from_slice(alloc, b"no contact needs it")?,
             other: None,
+            named: NO_NAME,
+            beside: None,
         }),
     }
 }
@@ -87,7 +115,7 @@ pub fn remark_notice<'n>(
 pub fn contact_notice<'n>(
     alloc: Global,
     file: &'n [u8],
-    finding: &ContactFinding<'_>,
+    finding: &ContactFinding<'n>,
 ) -> Result<Notice<'n>, AllocError>
     ensures { IfOk result (λ notice. notice_of notice ≡ contact_notice file.now (finding_view finding.now)) }
 {
@@ -99,6 +127,8 @@ pub fn contact_notice<'n>(
         place: Place { file, line },
         message,
         other,
+        named: named_contact_in(finding),
+        beside: compared_contact(finding),
     })
 }
 
@@ -114,6 +144,101 @@ fn referred_line<'a>(names: &'a [Vec<u8>], kind: &FindingKind<'_>) -> Option<Pla
         | FindingKind::IgnoredText(_)
         | FindingKind::CommentInLine
         | FindingKind::GitReads(_) => None,
+    }
+}
+
+fn named_in<'a>(kind: &FindingKind<'a>) -> Named<'a>
+    ensures { named_of result ≡ spec_named_in (kind_of kind.now) }
+{
+    match kind {
+        FindingKind::GitReads(reading) => named_by_git(reading),
+        FindingKind::ItselfMapped { contact, .. } => named_contact(*contact),
+        _ => NO_NAME,
+    }
+}
+
+fn beside_in<'a>(kind: &FindingKind<'a>) -> Option<Named<'a>>
+    ensures { option_map named_of result ≡ spec_beside_in (kind_of kind.now) }
+{
+    match kind {
+        FindingKind::GitReads(reading) => beside_by_git(reading),
+        FindingKind::ItselfMapped { to, .. } => Some(named_contact(*to)),
+        _ => None,
+    }
+}
+
+fn named_by_git<'a>(reading: &GitReading<'a>) -> Named<'a>
+    ensures { named_of result ≡ spec_named_by_git (git_reading_of reading.now) }
+{
+    match reading {
+        GitReading::Nothing => NO_NAME,
+        GitReading::Entry(entry) => Named {
+            name: entry.new_name(),
+            email: entry.new_email(),
+            count: None,
+        },
+        GitReading::Lines(count) => Named {
+            name: None,
+            email: None,
+            count: Some(*count),
+        },
+    }
+}
+
+fn beside_by_git<'a>(reading: &GitReading<'a>) -> Option<Named<'a>>
+    ensures { option_map named_of result ≡ spec_beside_by_git (git_reading_of reading.now) }
+{
+    match reading {
+        GitReading::Entry(entry) => Some(Named {
+            name: entry.old_name(),
+            email: Some(entry.old_email()),
+            count: None,
+        }),
+        GitReading::Nothing | GitReading::Lines(_) => None,
+    }
+}
+
+fn named_contact(contact: Contact<'_>) -> Named<'_>
+    ensures { named_of result ≡ spec_named_contact (contact_of contact.entry) }
+{
+    Named {
+        name: contact.name,
+        email: Some(contact.email),
+        count: None,
+    }
+}
+
+fn named_contact_in<'a>(finding: &ContactFinding<'a>) -> Named<'a>
+    ensures { named_of result ≡ spec_named_contact_in (finding_view finding.now) }
+{
+    match finding {
+        ContactFinding::NoContact(_) => NO_NAME,
+        ContactFinding::SharedEmail(email, seen) => Named {
+            name: None,
+            email: Some(*email),
+            count: Some(seen.count),
+        },
+        ContactFinding::IsLike(_, answer, _) => named_tally(answer),
+        ContactFinding::GitAnswers(answer) => named_tally(answer),
+    }
+}
+
+fn compared_contact<'a>(finding: &ContactFinding<'a>) -> Option<Named<'a>>
+    ensures { option_map named_of result ≡ spec_compared_contact (finding_view finding.now) }
+{
+    match finding {
+        ContactFinding::IsLike(_, _, best) => Some(named_tally(best)),
+        _ => None,
+    }
+}
+
+fn named_tally<'a>(answer: &Tally<'a>) -> Named<'a>
+    ensures { named_of result ≡ spec_named_tally (tally_of answer.now) }
+{
+    Named {
+        name: Some(answer.name),
+        email: Some(answer.email),
+        count: Some(answer.seen.count),
     }
 }
 

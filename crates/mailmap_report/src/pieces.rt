@@ -1,18 +1,20 @@
 //! Reports in pieces, each of which is a line, an object of JSON or several lines.
-ghost use Rattle.std.specs.Prelude.{◌≡◌, ◌++◌, IfOk, List, map};
+ghost use Rattle.std.specs.Prelude.{◌≡◌, ◌++◌, ◌∷◌, [], IfOk, List, map};
 ghost use Rattle.std.specs.Iterator.{YieldsFirstBy};
 ghost use Rattle.std.specs.Slice.Iter.{iter_rest};
 ghost use Rattle.command_line.specs.Files.{texts};
+ghost use Rattle.command_line.specs.Shown.{shown};
 ghost use Rattle.mailmap_report.specs.Json.{notice_of};
 ghost use Rattle.mailmap_report.specs.Report.{Piece as ThePiece, notice_piece, notice_text, piece_of, pieces_beside};
 ghost use Rattle.mailmap_report.specs.Report.{report_pieces, reported_text, shown_line, text_of};
 ghost use Rattle.mailmap_report.specs.Settings.{choices_of};
 ghost use Rattle.mailmap_suggestions.specs.FindingViews.{finding_view};
 
+use crate::github::annotation_line;
 use crate::json::object_line;
 use crate::notice::{Notice, contact_notice, finding_notice, remark_notice};
 use crate::places::push_place;
-use crate::settings::Settings;
+use crate::settings::{Format, Settings};
 use command_line::shown::{may_need_escapes, push_shown};
 use mailmap_findings::remarks::Remarks;
 use mailmap_findings::verify::Findings;
@@ -128,10 +130,11 @@ fn formatted(alloc: Global, settings: &Settings, notice: &Notice<'_>) -> Result<
     if !settings.reports(notice.kind) {
         return Ok(Vec::new(alloc));
     }
-    if settings.is_json() {
-        return object_line(alloc, notice);
+    match settings.format() {
+        Format::Gcc => line_of(alloc, notice),
+        Format::Json => object_line(alloc, notice),
+        Format::Github => annotation_line(alloc, notice),
     }
-    line_of(alloc, notice)
 }
 
 // The line of a notice, as in `team:3: error: no email in brackets [no-email]`.
@@ -151,15 +154,26 @@ fn line_of(alloc: Global, notice: &Notice<'_>) -> Result<Vec<u8>, AllocError>
 }
 
 // Escapes a line, and ends it. Few lines need escapes, so others aren't copied.
+#[tactic(auto, unfolding(crate::specs::Report::shown_from_start))]
 pub(crate) fn shown_line(alloc: Global, mut text: Vec<u8>) -> Result<Vec<u8>, AllocError>
     ensures { IfOk result (λ line. line.items ≡ shown_line text.items) }
 {
+    if text.starts_with(b"::") {
+        return escaped_line(alloc, b"\\x3a:", &text[2..]);
+    }
     if may_need_escapes(text.as_slice()) {
-        let mut line = Vec::new(alloc);
-        push_shown(&mut line, text.as_slice())?;
-        line.push(b'\n')?;
-        return Ok(line);
+        return escaped_line(alloc, b"", text.as_slice());
     }
     text.push(b'\n')?;
     Ok(text)
+}
+
+// The start as it is, and the rest escaped.
+fn escaped_line(alloc: Global, start: &[u8], rest: &[u8]) -> Result<Vec<u8>, AllocError>
+    ensures { IfOk result (λ line. line.items ≡ (start.now ++ shown rest.now) ++ 10 ∷ []) }
+{
+    let mut line = Vec::from_slice(alloc, start)?;
+    push_shown(&mut line, rest)?;
+    line.push(b'\n')?;
+    Ok(line)
 }

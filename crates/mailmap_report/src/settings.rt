@@ -3,7 +3,7 @@ ghost use Rattle.std.specs.Prelude.{◌≡◌};
 ghost use Rattle.std.specs.List.{list_any};
 ghost use Rattle.command_line.specs.Files.{texts};
 ghost use Rattle.mailmap_report.specs.Kinds.{same_kind};
-ghost use Rattle.mailmap_report.specs.Settings.{choices_of, counts, input_name, is_json, is_reported, level_rank};
+ghost use Rattle.mailmap_report.specs.Settings.{choices_of, counts, format_of, input_name, is_reported, level_rank};
 ghost use Rattle.mailmap_report.specs.Settings.{mailmap_names, no_choices};
 
 use crate::kinds::{Kind, Level};
@@ -17,6 +17,8 @@ pub enum Format {
     Gcc,
     /// One object of JSON on each line.
     Json,
+    /// One annotation of GitHub on each line.
+    Github,
 }
 
 /// Which findings are reported, and how.
@@ -71,11 +73,11 @@ impl Settings {
         self.reports(kind) && rank(least) <= rank(kind.level())
     }
 
-    /// Whether findings are objects of JSON.
-    pub fn is_json(&self) -> bool
-        ensures { result ≡ is_json (choices_of self.now) }
+    /// The format that is asked for, or the default one.
+    pub fn format(&self) -> Format
+        ensures { result ≡ format_of (choices_of self.now) }
     {
-        matches!(self.format, Some(Format::Json))
+        self.format.unwrap_or(Format::Gcc)
     }
 
     /// The names of the mailmaps in messages; none if the mailmap is standard input under its usual name.

@@ -17,7 +17,7 @@ use command_line::streams::write_all;
 use mailmap_report::kinds::push_kind_names;
 use mailmap_report::places::push_position;
 use std::alloc::{AllocError, Global};
-use std::io::IsTerminal;
+use std::io::{ErrorKind, IsTerminal};
 use std::process::ExitCode;
 use verify_command::failure::TaskFailure;
 use verify_command::task::{Mode, ParseError, Request, Setting, perform, request_of};
@@ -26,8 +26,8 @@ const PROGRAM: &[u8] = b"mailmap_verify";
 
 // Follows the message for a wrong argument.
 const USAGE_LINE: &str = "\
-usage: mailmap_verify [--prune | --explain | --contacts CONTACTS | --suggest CONTACTS] [-S LEVEL] [-e KIND,..]
-     [-f FORMAT] [--stdin-name NAME] [--] [FILE..] | --help | --version
+usage: mailmap_verify [--prune [--in-place] | --explain | --contacts CONTACTS | --suggest CONTACTS]
+     [-S LEVEL] [-e KIND,..] [-f FORMAT] [--stdin-name NAME] [--] [FILE..] | --help | --version
 ";
 
 fn main(rt: HostRuntime) -> ExitCode {
@@ -52,7 +52,15 @@ fn done(rt: &HostRuntime, request: &Request) -> ExitCode {
         let _ = write_all(&mut rt.stderr(), reads(request).as_bytes());
     }
     let mut output = Piped::new(rt.stdout());
-    let ended = perform(&system, rt.alloc(), request, &mut input, &mut output);
+    let mut folder = System { files: rt };
+    let ended = perform(
+        &system,
+        &mut folder,
+        rt.alloc(),
+        request,
+        &mut input,
+        &mut output,
+    );
     if let Err(failure) = ended {
         if !output.is_closed {
             say(rt, failure_line(rt.alloc(), request, failure));
@@ -94,6 +102,7 @@ fn misuse_lines(alloc: Global, error: &ParseError) -> Result<Vec<u8>, AllocError
                 setting.name().as_bytes(),
             )
         }
+        ParseError::InPlaceAlone => (["--in-place needs --prune", "", ""], b"".as_slice()),
         ParseError::Memory => return Err(AllocError),
     };
     let what = words.concat(alloc)?;
@@ -109,7 +118,7 @@ fn help_lines(alloc: Global, error: &ParseError) -> Result<Vec<u8>, AllocError> 
             lines.extend_from_slice(b"levels: error warning note\n")?
         }
         ParseError::UnknownValue(Setting::Format, _) => {
-            lines.extend_from_slice(b"formats: gcc json\n")?
+            lines.extend_from_slice(b"formats: gcc json github\n")?
         }
         ParseError::UnknownValue(Setting::Exclude, _) => {
             lines.extend_from_slice(b"kinds:")?;
@@ -136,6 +145,7 @@ fn value_of(setting: Setting) -> &'static str {
 fn name_of(mode: Mode) -> &'static str {
     match mode {
         Mode::Prune => "--prune",
+        Mode::PruneInPlace => "--prune --in-place",
         Mode::Explain => "--explain",
         Mode::Suggest => "--suggest",
         // These modes use all options, or end the parse.
@@ -167,7 +177,34 @@ fn failure_line(
             push_shown(&mut line, shown.as_slice())?;
             line.extend_from_slice(b" otherwise")?;
         }
+        TaskFailure::Unreplaced { index, cause } => {
+            if let Some(path) = paths.get(index) {
+                push_shown(&mut line, path.as_slice())?;
+            }
+            line.extend_from_slice(b": cannot be replaced: ")?;
+            line.extend_from_slice(unreplaced_text(cause).as_bytes())?;
+        }
     }
     line.push(b'\n')?;
     Ok(line)
+}
+
+// Why a file can't be replaced.
+fn unreplaced_text(cause: ErrorKind) -> &'static str {
+    match cause {
+        ErrorKind::AlreadyExists => "the file of its name and .lock exists",
+        ErrorKind::InvalidInput => "Not a regular file",
+        ErrorKind::ReadOnlyFilesystem => "Read-only file system",
+        ErrorKind::StorageFull => "No space left on device",
+        ErrorKind::QuotaExceeded => "Disk quota exceeded",
+        ErrorKind::FileTooLarge => "File too large",
+        ErrorKind::NotFound
+        | ErrorKind::PermissionDenied
+        | ErrorKind::IsADirectory
+        | ErrorKind::NotADirectory
+        | ErrorKind::InvalidFilename
+        | ErrorKind::FilesystemLoop
+        | ErrorKind::InvalidData => cause_text(cause),
+        _ => "cannot be written",
+    }
 }

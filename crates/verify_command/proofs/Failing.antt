@@ -1,5 +1,5 @@
 -- How a run over contacts can fail, and that contacts in git log's own format do.
-use Rattle.std.proofs.Common.{◌≡◌, ◌⊎◌, ◌∙◌, ⊎_elim, List, Option, Bool, ap, false, inl, refl, subst, sym, true}
+use Rattle.std.proofs.Common.{◌≡◌, ◌⊎◌, ◌∙◌, ⊎_elim, ◌&&◌, List, Option, Bool, ap, false, inl, refl, subst, sym, true}
 use Rattle.mailmap_entries.specs.Folding.{Text}
 use Rattle.command_line.specs.declared.failure.Failure.TheVariants.{File, GitLog, Input, Memory, Output}
 use Rattle.command_line.specs.Failures.{IsOfInput}
@@ -7,10 +7,11 @@ use Rattle.command_line.specs.Files.{AtPath, Bytes, Fails, Opens, Unknown}
 use Rattle.command_line.specs.declared.failure.Failure.{Failure}
 use Rattle.verify_command.specs.Arguments.{is_dash, reads_contacts, takes_contacts}
 use Rattle.verify_command.specs.Task.{AreLog, AreMailmaps, EndsPrinting, FailsFor, FailsForContacts, FailsToExplain, HasLog, IsLog, IsLogIn, Wanted}
+use Rattle.verify_command.specs.InPlace.{FailsInPlace}
 use Rattle.verify_command.specs.declared.asked.Mode.{Mode}
-use Rattle.verify_command.specs.declared.asked.Mode.TheVariants.{Help, Version, Verify, Prune, Explain, Contacts, Suggest}
+use Rattle.verify_command.specs.declared.asked.Mode.TheVariants.{Help, Version, Verify, Prune, PruneInPlace, Explain, Contacts, Suggest}
 use Rattle.verify_command.specs.declared.failure.TaskFailure.{TaskFailure}
-use Rattle.verify_command.specs.declared.failure.TaskFailure.TheVariants.{Run, Contacts as NoContacts, TooManyFiles, ReadOtherwise}
+use Rattle.verify_command.specs.declared.failure.TaskFailure.TheVariants.{Run, Contacts as NoContacts, TooManyFiles, ReadOtherwise, Unreplaced}
 
 -- what is known of the contacts is known before the mailmaps are read
 pub log_before : (mode : Mode) (at : Text → AtPath) (contacts : Text) (input between : Option Text) (is_log : Bool)
@@ -24,6 +25,7 @@ log_before Help at contacts input between is_log takes same known = cc
 log_before Version at contacts input between is_log takes same known = cc
 log_before Verify at contacts input between is_log takes same known = cc
 log_before Prune at contacts input between is_log takes same known = cc
+log_before PruneInPlace at contacts input between is_log takes same known = cc
 log_before Explain at contacts input between is_log takes same known = cc
 
 -- other modes have no contacts
@@ -36,6 +38,7 @@ no_log Help at contacts input takes other = refl
 no_log Version at contacts input takes other = refl
 no_log Verify at contacts input takes other = refl
 no_log Prune at contacts input takes other = refl
+no_log PruneInPlace at contacts input takes other = refl
 
 reads_dash : (mode : Mode) (contacts : Text) → takes_contacts mode ≡ true → is_dash contacts ≡ true
     → reads_contacts mode contacts ≡ true
@@ -45,6 +48,7 @@ reads_dash Help contacts takes dash = cc
 reads_dash Version contacts takes dash = cc
 reads_dash Verify contacts takes dash = cc
 reads_dash Prune contacts takes dash = cc
+reads_dash PruneInPlace contacts takes dash = cc
 reads_dash Explain contacts takes dash = cc
 
 -- reading contacts fails, or what follows
@@ -63,6 +67,7 @@ contacts_failed at input between w mailmaps TooManyFiles takes are same fails = 
 contacts_failed at input between w mailmaps (NoContacts cause) takes are same fails =
     ⊎_elim (λ x. absurd x) (λ f. (mailmaps, are, takes, f)) fails
 contacts_failed at input between w mailmaps (ReadOtherwise position) takes are same fails = absurd (⊎_elim (λ x. x) (λ x. x) fails)
+contacts_failed at input between w mailmaps (Unreplaced index cause) takes are same fails = absurd (⊎_elim (λ x. x) (λ x. x) fails)
 
 log_explained : (mode : Mode) (at : Text → AtPath) (contacts : Text) (input : Option Text) (is_log : Bool) → mode ≡ Explain
     → IsLog input is_log → HasLog mode at contacts input is_log
@@ -71,6 +76,7 @@ log_explained Help at contacts input is_log is known = cc
 log_explained Version at contacts input is_log is known = cc
 log_explained Verify at contacts input is_log is known = cc
 log_explained Prune at contacts input is_log is known = cc
+log_explained PruneInPlace at contacts input is_log is known = cc
 log_explained Contacts at contacts input is_log is known = cc
 log_explained Suggest at contacts input is_log is known = cc
 
@@ -93,6 +99,26 @@ explaining_fails at input between w (Run (File number cause)) is same fails = ab
 explaining_fails at input between w TooManyFiles is same fails = absurd fails
 explaining_fails at input between w (NoContacts cause) is same fails = absurd fails
 explaining_fails at input between w (ReadOtherwise position) is same fails = absurd fails
+explaining_fails at input between w (Unreplaced index cause) is same fails = absurd fails
+
+-- ---- the failures of pruning
+
+pub in_place_fails : (at : Text → AtPath) (input : Option Text) (w : Wanted) (e : TaskFailure) → w.mode ≡ PruneInPlace
+    → FailsInPlace at w.paths e → FailsFor at input w e
+in_place_fails at input w (Run (File number cause)) is fails =
+    ((λ _. fails), λ default. let no : false ≡ true = sym (ap (λ m. takes_contacts m && w.by_default) is) ∙ default in cc)
+in_place_fails at input w (Run (Input cause)) is fails = absurd fails.1
+in_place_fails at input w (Run GitLog) is fails = absurd fails.1
+in_place_fails at input w (Run Memory) is fails = tt
+in_place_fails at input w (Run Output) is fails = tt
+in_place_fails at input w TooManyFiles is fails = absurd fails.1
+in_place_fails at input w (NoContacts cause) is fails = absurd fails.1
+in_place_fails at input w (ReadOtherwise position) is fails = inl (is, fails)
+in_place_fails at input w (Unreplaced index cause) is fails = is
+
+-- nothing is printed, so printing can't fail
+pub not_of_output : (at : Text → AtPath) (paths : List Text) (e : TaskFailure) → FailsInPlace at paths e → ¬ (e ≡ Run Output)
+not_of_output at paths e fails is = (subst (FailsInPlace at paths) is fails).1
 
 -- ---- the failures of explaining
 

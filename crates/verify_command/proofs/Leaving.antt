@@ -19,9 +19,10 @@ use Rattle.verify_command.specs.Arguments.{can_be_mailmap, has_none}
 use Rattle.mailmap_report.specs.Explained.{AreGrounds, Grounds, each_line, explained_line}
 use Rattle.mailmap_report.specs.Report.{Piece, text_of}
 use Rattle.verify_command.specs.Task.{AreContacts, AreMailmaps, EndsPrinting, ExplainsBy, FailsToRead, FromContacts, IsKnown, Leaves, LeavesExplained}
-use Rattle.verify_command.specs.Task.{LeavesFor, Says, Wanted, WithContacts, is_dash, outcome_of, reads_mailmap, takes_contacts}
+use Rattle.verify_command.specs.InPlace.{PrunesFiles, Replaced}
+use Rattle.verify_command.specs.Task.{LeavesFor, ReplacesFor, Says, Wanted, WithContacts, is_dash, outcome_of, reads_mailmap, takes_contacts}
 use Rattle.verify_command.specs.declared.asked.Mode.{Mode}
-use Rattle.verify_command.specs.declared.asked.Mode.TheVariants.{Help, Version, Verify, Prune, Explain, Contacts, Suggest}
+use Rattle.verify_command.specs.declared.asked.Mode.TheVariants.{Help, Version, Verify, Prune, PruneInPlace, Explain, Contacts, Suggest}
 use Rattle.verify_command.specs.declared.failure.TaskFailure.{TaskFailure}
 use Rattle.verify_command.specs.declared.failure.TaskFailure.TheVariants.{Run, TooManyFiles}
 
@@ -110,6 +111,7 @@ left_silent_for contents Help at unread left w e no_input other same = left_sile
 left_silent_for contents Version at unread left w e no_input other same = left_silent e other same
 left_silent_for contents Verify at unread left w e no_input other same = left_silent e other same
 left_silent_for contents Prune at unread left w e no_input other same = left_silent e other same
+left_silent_for contents PruneInPlace at unread left w e no_input other same = left_silent e other same
 left_silent_for contents Contacts at unread left w e no_input other same = left_silent e other same
 left_silent_for contents Suggest at unread left w e no_input other same = left_silent e other same
 
@@ -147,6 +149,28 @@ pub too_many_left : {W : Type 0} {b : Bool} {P : Outcome → Text → Type 0} {c
     → new ≡ old → Leaves b P contents old new (Err TooManyFiles)
 too_many_left same = record { prints = tt; breaks_off = λ of. cc; memory = λ of. cc; silent = λ _ _ _. same }
 
+-- pruning in place prints nothing
+pub nothing_left : {W : Type 0} {contents : W → Option Text} (old : W) (r : Result Outcome TaskFailure)
+    → IfOk r (λ o. o ≡ Clean) → IfErr r (λ e. ¬ (e ≡ Run Output)) → Leaves false (IsKnown []) contents old old r
+nothing_left {contents = contents} old (Ok o) clean fails = record {
+  prints = ([], (refl, clean), Appends-nil (contents old));
+  breaks_off = λ of. cc;
+  memory = λ of. cc;
+  silent = λ of. cc;
+}
+nothing_left old (Err e) clean fails =
+    record {
+      prints = tt;
+      breaks_off = λ of. let same : e ≡ Run Output = cc in absurd (fails same);
+      memory = λ _. inl refl;
+      silent = λ _ _ _. refl;
+    }
+
+pub all_replaced : {D : Type 0} (has : D → List Replaced → Type 0) (old new : D) (r : Result Outcome TaskFailure) (mode : Mode)
+    (at : Text → AtPath) (w : Wanted) → mode ≡ PruneInPlace → PrunesFiles has at w.paths old new r
+    → ReplacesFor mode has at w old new r
+all_replaced has old new r mode at w is prunes = subst (λ m. ReplacesFor m has at w old new r) (sym is) prunes
+
 -- what is known of a mode
 pub in_mode : {W : Type 0} (contents : W → Option Text) (old new : W) (r : Result Outcome TaskFailure)
     (at : Text → AtPath) (unread left : Option Text) (w : Wanted) {mode known : Mode} → mode ≡ known
@@ -155,15 +179,16 @@ in_mode contents old new r at unread left w is l =
     subst (λ m. LeavesFor m at unread left w contents old new r) (sym is) l
 
 -- the mode that is left
-pub only_verify : (mode : Mode) → ¬ (mode ≡ Help) → ¬ (mode ≡ Version) → ¬ (mode ≡ Prune) → ¬ (mode ≡ Explain)
-    → ¬ (mode ≡ Contacts) → ¬ (mode ≡ Suggest) → mode ≡ Verify
-only_verify Verify help version prune explain contacts suggest = refl
-only_verify Help help version prune explain contacts suggest = absurd (help refl)
-only_verify Version help version prune explain contacts suggest = absurd (version refl)
-only_verify Prune help version prune explain contacts suggest = absurd (prune refl)
-only_verify Explain help version prune explain contacts suggest = absurd (explain refl)
-only_verify Contacts help version prune explain contacts suggest = absurd (contacts refl)
-only_verify Suggest help version prune explain contacts suggest = absurd (suggest refl)
+pub only_verify : (mode : Mode) → ¬ (mode ≡ Help) → ¬ (mode ≡ Version) → ¬ (mode ≡ Prune) → ¬ (mode ≡ PruneInPlace)
+    → ¬ (mode ≡ Explain) → ¬ (mode ≡ Contacts) → ¬ (mode ≡ Suggest) → mode ≡ Verify
+only_verify Verify help version prune in_place explain contacts suggest = refl
+only_verify Help help version prune in_place explain contacts suggest = absurd (help refl)
+only_verify Version help version prune in_place explain contacts suggest = absurd (version refl)
+only_verify Prune help version prune in_place explain contacts suggest = absurd (prune refl)
+only_verify PruneInPlace help version prune in_place explain contacts suggest = absurd (in_place refl)
+only_verify Explain help version prune in_place explain contacts suggest = absurd (explain refl)
+only_verify Contacts help version prune in_place explain contacts suggest = absurd (contacts refl)
+only_verify Suggest help version prune in_place explain contacts suggest = absurd (suggest refl)
 
 -- pieces were printed, or a prefix of their text
 pub left_pieces : {W : Type 0} {contents : W → Option Text} {old new : W} (pieces : List Piece)

@@ -1,3 +1,4 @@
 mod EachLine
 mod Failing
 mod Leaving
+mod PrunedFiles

@@ -9,9 +9,9 @@ use Rattle.command_line.specs.Files.{default_path, texts}
 use Rattle.mailmap_report.specs.Kinds.{kind_named}
 use Rattle.mailmap_report.specs.Settings.{Choices, choices_of, input_name, no_choices}
 use Rattle.mailmap_report.specs.declared.settings.Format.{Format}
-use Rattle.mailmap_report.specs.declared.settings.Format.TheVariants.{Gcc, Json}
+use Rattle.mailmap_report.specs.declared.settings.Format.TheVariants.{Gcc, Github, Json}
 use Rattle.verify_command.specs.declared.asked.Mode.{Mode}
-use Rattle.verify_command.specs.declared.asked.Mode.TheVariants.{Help, Version, Verify, Prune, Explain, Contacts, Suggest}
+use Rattle.verify_command.specs.declared.asked.Mode.TheVariants.{Help, Version, Verify, Prune, PruneInPlace, Explain, Contacts, Suggest}
 use Rattle.verify_command.specs.declared.asked.ParseError.{ParseError}
 use Rattle.verify_command.specs.declared.asked.ParseError.TheVariants as error
 use Rattle.verify_command.specs.declared.asked.Request.{Request}
@@ -31,6 +31,7 @@ pub record Wanted : Type 0 where
   pub choices : Choices
   pub paths : List Text
   pub by_default : Bool
+  pub in_place : Bool
 
 -- an error in the arguments
 pub data Wrong : Type 0 where
@@ -39,6 +40,7 @@ pub data Wrong : Type 0 where
   no_value : Setting → Text → Wrong
   unknown_value : Setting → Text → Wrong
   unused : Mode → Setting → Wrong
+  in_place_alone : Wrong
 
 -- the specification's views
 abbrev pub wanted_of : Request → Wanted
@@ -48,6 +50,7 @@ wanted_of r = record {
   choices = choices_of r.settings;
   paths = texts r.paths.items;
   by_default = r.by_default;
+  in_place = r.in_place;
 }
 
 -- Unless memory runs out, this is the request or the error.
@@ -58,11 +61,19 @@ IsAsked (Err (error.SecondMode option)) asked = Err (second_mode option.items) �
 IsAsked (Err (error.NoValue setting option)) asked = Err (no_value setting option.items) ≡ asked
 IsAsked (Err (error.UnknownValue setting value)) asked = Err (unknown_value setting value.items) ≡ asked
 IsAsked (Err (error.Unused mode setting)) asked = Err (unused mode setting) ≡ asked
+IsAsked (Err error.InPlaceAlone) asked = Err in_place_alone ≡ asked
 IsAsked (Err error.Memory) asked = ⊤
 
 -- what no argument asks for
 abbrev pub plain : Mode → Wanted
-plain mode = record { mode = mode; contacts = []; choices = no_choices; paths = []; by_default = false }
+plain mode = record {
+  mode = mode;
+  contacts = [];
+  choices = no_choices;
+  paths = [];
+  by_default = false;
+  in_place = false;
+}
 
 -- ---- single arguments
 
@@ -106,11 +117,17 @@ word_of argument = if bytes_eq argument (codes "--") then word.End
     else if bytes_eq argument (codes "--version") then word.Alone Version
     else if bytes_eq argument (codes "--prune") then word.Mode Prune
     else if bytes_eq argument (codes "--explain") then word.Mode Explain
+    else if bytes_eq argument (codes "--in-place") then word.InPlace
     else if bytes_eq argument (codes "-S") then word.Next setting.Severity
     else if bytes_eq argument (codes "-e") then word.Next setting.Exclude
     else if bytes_eq argument (codes "-f") then word.Next setting.Format else setting_word argument
 
 -- ---- what an option adds to a request
+
+-- what comes after a step, unless it found an error
+abbrev pub followed : Result Wanted Wrong → (Wanted → Result Wanted Wrong) → Result Wanted Wrong
+followed (Ok w) next = next w
+followed (Err wrong) next = Err wrong
 
 -- whether the mode prints findings
 abbrev pub reports : Mode → Bool
@@ -156,7 +173,7 @@ level_named name = if bytes_eq name (codes "error") then Some Error
 
 abbrev pub format_named : Text → Option Format
 format_named name = if bytes_eq name (codes "gcc") then Some Gcc else if bytes_eq name (codes "json") then Some Json
-    else None
+    else if bytes_eq name (codes "github") then Some Github else None
 
 -- the names between commas
 abbrev pub names_in : Text → List Text
@@ -244,6 +261,7 @@ is_only_dash _ = false
 abbrev pub takes_default : Mode → Bool
 takes_default Verify = true
 takes_default Prune = true
+takes_default PruneInPlace = true
 takes_default mode = takes_contacts mode
 
 -- A single `-` is standard input if that can be the mailmap. Without a path, the mailmap is the default one.
@@ -255,30 +273,35 @@ finished w = if can_be_mailmap w.mode w.contacts && is_only_dash w.paths then re
 abbrev pub reads_default : Wanted → Bool
 reads_default w = takes_contacts w.mode && w.by_default
 
+abbrev pub is_prune : Mode → Bool
+is_prune Prune = true
+is_prune _ = false
+
+-- What is asked for after all arguments. Pruning in place is a mode of its own.
+abbrev pub ended : Wanted → Result Wanted Wrong
+ended w = if w.in_place then (if is_prune w.mode then followed (checked (record w { mode = PruneInPlace })) (λ next. Ok (finished next))
+    else Err in_place_alone) else Ok (finished w)
+
 abbrev pub with_paths : Wanted → List Text → Wanted
 with_paths w paths = record w { paths = w.paths ++ paths }
-
--- what comes after a step, unless it found an error
-abbrev pub followed : Result Wanted Wrong → (Wanted → Result Wanted Wrong) → Result Wanted Wrong
-followed (Ok w) next = next w
-followed (Err wrong) next = Err wrong
 
 -- what a word adds, given the words after it and what they make of a request, or of one whose last option waits
 abbrev pub on_word : Word → Text → List Text → Wanted → (Wanted → Option (Setting × Text) → Result Wanted Wrong)
     → Result Wanted Wrong
-on_word word.End argument rest w more = Ok (finished (with_paths w rest))
+on_word word.End argument rest w more = ended (with_paths w rest)
 on_word (word.Alone mode) argument rest w more = Ok (plain mode)
 on_word (word.Mode mode) argument rest w more = followed (with_mode w mode [] argument) (λ next. more next None)
 on_word (word.Next setting) argument rest w more = more w (Some (setting, argument))
 on_word (word.Joined setting) argument rest w more =
     followed (with_setting w setting argument (unwrap_or (value_in argument) [])) (λ next. more next None)
+on_word word.InPlace argument rest w more = more (record w { in_place = true }) None
 on_word word.Unknown argument rest w more = Err (unknown_option argument)
 on_word word.Path argument rest w more = more (with_paths w (argument ∷ [])) None
 
 -- The arguments after those that gave a request, up to the first error. If an option waits for its value, the next one
 -- is that, whatever it looks like.
 abbrev pub asked_in : List Text → Wanted → Option (Setting × Text) → Result Wanted Wrong
-asked_in [] w None = Ok (finished w)
+asked_in [] w None = ended w
 asked_in [] w (Some (setting, option)) = Err (without_value w setting option)
 asked_in (argument ∷ rest) w None = on_word (word_of argument) argument rest w (asked_in rest)
 asked_in (value ∷ rest) w (Some (setting, option)) =

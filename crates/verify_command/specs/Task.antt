@@ -15,7 +15,7 @@ use Rattle.command_line.specs.declared.failure.Failure.{Failure}
 use Rattle.command_line.specs.declared.failure.Failure.TheVariants.{File, GitLog, Input, Memory, Output}
 use Rattle.command_line.specs.Files.{AreRead, AtPath, Bytes, Fails, FailsForDefault, Gives, IsDefault, NamesFile, Unknown, default_path}
 use Rattle.command_line.specs.Printing.{Prints, PrintsFront}
-use Rattle.contact_input.specs.GitLog.{is_git_log}
+pub use Rattle.contact_input.specs.GitLog.{IsLog, is_git_log}
 use Rattle.command_line.specs.declared.TheConstants.{VERSION}
 use Rattle.command_line.specs.declared.outcome.Outcome.{Outcome}
 use Rattle.command_line.specs.declared.outcome.Outcome.TheVariants.{Clean, Found}
@@ -24,9 +24,10 @@ use Rattle.mailmap_report.specs.Explained.{Explains}
 use Rattle.mailmap_report.specs.Report.{Piece, pieces_beside, report_pieces, text_of}
 use Rattle.mailmap_report.specs.Settings.{mailmap_names}
 use Rattle.verify_command.specs.declared.failure.TaskFailure.{TaskFailure}
-use Rattle.verify_command.specs.declared.failure.TaskFailure.TheVariants.{Run, Contacts as NoContacts, TooManyFiles, ReadOtherwise}
+use Rattle.verify_command.specs.declared.failure.TaskFailure.TheVariants.{Run, Contacts as NoContacts, TooManyFiles, ReadOtherwise, Unreplaced}
+use Rattle.verify_command.specs.InPlace.{FailsInPlace, PrunesFiles, Replaced}
 use Rattle.verify_command.specs.declared.asked.Mode.{Mode}
-use Rattle.verify_command.specs.declared.asked.Mode.TheVariants.{Help, Version, Verify, Prune, Explain, Contacts, Suggest}
+use Rattle.verify_command.specs.declared.asked.Mode.TheVariants.{Help, Version, Verify, Prune, PruneInPlace, Explain, Contacts, Suggest}
 use Rattle.verify_command.specs.declared.asked.TheConstants.{USAGE}
 
 -- ---- what is read
@@ -51,10 +52,7 @@ abbrev pub AreContacts : (Text → AtPath) → Text → Option Text → Text →
 AreContacts at contacts input text = (is_dash contacts ≡ true → IfSome input (λ bytes. text ≡ bytes))
     × (is_dash contacts ≡ false → Gives (at contacts) text)
 
--- whether the known contacts are git log's own format
-abbrev pub IsLog : Option Text → Bool → Type 0
-IsLog input is_log = IfSome input (λ bytes. is_git_log bytes ≡ is_log)
-
+-- whether the contacts of a file, if they are known, are git log's own format
 abbrev pub IsLogIn : AtPath → Bool → Type 0
 IsLogIn (Bytes bytes) is_log = is_git_log bytes ≡ is_log
 IsLogIn (Fails cause) is_log = ⊥
@@ -191,8 +189,10 @@ FailsFor at input w (Run _) = ⊤
 FailsFor at input w TooManyFiles = (w.mode ≡ Prune) × (1 < length w.paths)
 FailsFor at input w (NoContacts cause) = (mailmaps : List Text) × AreMailmaps at input w mailmaps
     × (takes_contacts w.mode ≡ true) × FailsForContacts at w.contacts input (NoContacts cause)
-FailsFor at input w (ReadOtherwise position) = (mailmaps : List Text) × AreMailmaps at input w mailmaps
-    × (w.mode ≡ Prune) × FailsToPrune mailmaps (ReadOtherwise position)
+FailsFor at input w (ReadOtherwise position) = ((w.mode ≡ PruneInPlace) × FailsInPlace at w.paths (ReadOtherwise position))
+    ⊎ ((mailmaps : List Text) × AreMailmaps at input w mailmaps
+    × (w.mode ≡ Prune) × FailsToPrune mailmaps (ReadOtherwise position))
+FailsFor at input w (Unreplaced index cause) = w.mode ≡ PruneInPlace
 
 -- ---- what a run has written
 
@@ -232,6 +232,13 @@ LeavesFor Help at unread left w = Leaves false (IsKnown USAGE.now)
 LeavesFor Version at unread left w = Leaves false (IsKnown version_line)
 LeavesFor Verify at unread left w = Leaves true (FromMailmaps (IsReport w) at unread w)
 LeavesFor Prune at unread left w = Leaves false (FromMailmaps IsPrunedFrom at unread w)
+LeavesFor PruneInPlace at unread left w = Leaves false (IsKnown [])
 LeavesFor Explain at unread left w = LeavesExplained at w.paths unread left
 LeavesFor Contacts at unread left w = Leaves true (WithContacts (IsReportBeside w) at unread w)
 LeavesFor Suggest at unread left w = Leaves true (WithContacts AreSuggested at unread w)
+
+-- Which files a run in each mode has replaced: `has` says which were replaced.
+abbrev pub ReplacesFor : {D : Type 0} → Mode → (D → List Replaced → Type 0) → (Text → AtPath) → Wanted → D → D
+    → Result Outcome TaskFailure → Type 0
+ReplacesFor PruneInPlace has at w old new result = PrunesFiles has at w.paths old new result
+ReplacesFor mode has at w old new result = new ≡ old

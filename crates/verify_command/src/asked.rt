@@ -9,18 +9,20 @@ pub const USAGE: &str = "\
 usage: mailmap_verify [OPTION..] [--] [FILE..]
 Prints what is wrong with the mailmaps, or as one of these modes:
   --prune              prints the one mailmap without the lines that have no effect
+  --prune --in-place   does so in each FILE, and prints nothing
   --explain            prints which lines map each contact of standard input
   --contacts CONTACTS  also prints which lines no contact needs, and which contacts are alike
   --suggest CONTACTS   prints lines that the mailmaps lack
 Options:
   -S, --severity LEVEL     reports only findings of this level or worse: error, warning or note
   -e, --exclude KIND,..    leaves findings of these kinds out
-  -f, --format FORMAT      prints findings as gcc does, the default, or as json
+  -f, --format FORMAT      prints findings as gcc does, the default, or as json, or as github annotations
       --stdin-name NAME    the name of standard input in messages
   -h, --help               prints this
       --version            prints the version
 Without a FILE, the mailmap is .mailmap in the current folder; --contacts and --suggest do without one if it isn't
-there, and --explain always does. A single - is standard input, but for --explain and --suggest, and if CONTACTS is -.
+there, and --explain always does. A single - is standard input, but for --explain, --suggest and --in-place, and if
+CONTACTS is -.
 Kinds: no-email, unclosed-email, empty-email, nothing-to-map, unclosed-second-email, byte-order-mark, ignored-text,
 comment-in-line, git-reads, no-effect, itself-mapped, unneeded, no-contact, same-email, shared-email, same-name,
 similar-name, git-answers.
@@ -38,6 +40,8 @@ pub enum Mode {
     Verify,
     /// Print the one mailmap without its lines that have no effect.
     Prune,
+    /// Replace each mailmap by that.
+    PruneInPlace,
     /// Print what the contacts on standard input map to, and by which lines.
     Explain,
     /// Print the findings in the mailmaps and in contacts, and the lines that no contact needs.
@@ -59,6 +63,8 @@ pub struct Request {
     pub paths: Vec<Vec<u8>>,
     /// Whether no path was given, so that with contacts the mailmap is git's own, if it is there.
     pub by_default: bool,
+    /// Whether `--in-place` was given.
+    pub in_place: bool,
 }
 
 /// An option with a value. The first two are also modes.
@@ -99,6 +105,8 @@ pub enum ParseError {
     UnknownValue(Setting, Vec<u8>),
     /// An option that the mode doesn't use.
     Unused(Mode, Setting),
+    /// `--in-place` without `--prune`.
+    InPlaceAlone,
     Memory,
 }
 

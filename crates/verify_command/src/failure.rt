@@ -17,9 +17,11 @@ pub enum TaskFailure {
     Contacts { cause: ErrorKind },
     /// More than one file for `--prune`, which prints one mailmap. Nothing is read then.
     TooManyFiles,
-    /// The first line of the mailmap to prune that git reads in another way. git's answers could change by pruning, so
+    /// The first line of the mailmaps to prune that git reads in another way. git's answers could change by pruning, so
     /// nothing is written.
     ReadOtherwise { position: Position },
+    /// A file can't be replaced: its index among the paths, and the cause. It is as it was, as are those after it.
+    Unreplaced { index: usize, cause: ErrorKind },
 }
 
 impl From<Failure> for TaskFailure {

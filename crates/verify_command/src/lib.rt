@@ -6,6 +6,8 @@ mod asked;
 pub mod contacts;
 pub mod explanation;
 pub mod failure;
+pub mod in_place;
+pub mod replacing;
 pub mod report;
 pub mod request;
 pub mod task;

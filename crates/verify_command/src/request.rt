@@ -4,7 +4,7 @@ ghost use Rattle.std.specs.Option.{option_copied};
 ghost use Rattle.std.specs.Vec.Iter.{into_iter_items, into_iter_len};
 ghost use Rattle.command_line.specs.Files.{texts};
 ghost use Rattle.verify_command.specs.Arguments.{IsAsked, asked, can_be_mailmap, checked, contacts_name};
-ghost use Rattle.verify_command.specs.Arguments.{finished, format_named, is_only_dash, level_named, name_in, plain, reads_default};
+ghost use Rattle.verify_command.specs.Arguments.{ended, finished, format_named, is_only_dash, level_named, name_in, plain, reads_default};
 ghost use Rattle.verify_command.specs.Arguments.{reads_contacts, reads_mailmap, reports, setting_named, setting_word, takes_contacts, takes_default, unused_setting};
 ghost use Rattle.verify_command.specs.Arguments.{value_in, wanted_of, with_excluded, with_mode, with_paths, with_setting};
 ghost use Rattle.verify_command.specs.Arguments.{without_value, word_of};
@@ -30,6 +30,8 @@ pub(crate) enum Word {
     Next(Setting),
     /// An option with its value, as in `--format=json`.
     Joined(Setting),
+    /// `--in-place`.
+    InPlace,
     /// An unknown option.
     Unknown,
     /// A path.
@@ -71,12 +73,13 @@ fn read_words(alloc: Global, mut words: IntoIter<Vec<u8>, Global>) -> Result<Req
                 request = request.with_setting(setting, argument, value)?;
             }
             Word::Path => request.paths.push(argument)?,
+            Word::InPlace => request.in_place = true,
             Word::End => return request.with_paths(words),
             Word::Alone(mode) => return Ok(Request::new(alloc, mode)),
             Word::Unknown => return Err(ParseError::UnknownOption(argument)),
         }
     }
-    request.finished()
+    request.ended()
 }
 
 impl Request {
@@ -89,6 +92,7 @@ impl Request {
             settings: Settings::new(alloc),
             paths: Vec::new(alloc),
             by_default: false,
+            in_place: false,
         }
     }
 
@@ -166,12 +170,26 @@ impl Request {
 
     fn with_paths(mut self, words: IntoIter<Vec<u8>, Global>) -> Result<Request, ParseError>
         requires { into_iter_len words ≡ length (into_iter_items words) }
-        ensures { IsAsked result (Ok (finished (with_paths (wanted_of self) (texts (into_iter_items words))))) }
+        ensures { IsAsked result (ended (with_paths (wanted_of self) (texts (into_iter_items words)))) }
     {
         for word in words {
             self.paths.push(word)?;
         }
-        self.finished()
+        self.ended()
+    }
+
+    // What is asked for after all arguments. `--in-place` needs `--prune`, and makes another mode of it.
+    fn ended(mut self) -> Result<Request, ParseError>
+        ensures { IsAsked result (ended (wanted_of self)) }
+    {
+        if !self.in_place {
+            return self.finished();
+        }
+        if self.mode != Mode::Prune {
+            return Err(ParseError::InPlaceAlone);
+        }
+        self.mode = Mode::PruneInPlace;
+        self.checked()?.finished()
     }
 
     // Makes a single `-` standard input, if that can be the mailmap. Without a path, the mailmap is git's own.
@@ -213,7 +231,7 @@ impl Request {
         match self.mode {
             Mode::Explain => true,
             Mode::Contacts | Mode::Suggest => self.contacts.as_slice() == b"-".as_slice(),
-            Mode::Help | Mode::Version | Mode::Verify | Mode::Prune => false,
+            Mode::Help | Mode::Version | Mode::Verify | Mode::Prune | Mode::PruneInPlace => false,
         }
     }
 
@@ -272,8 +290,8 @@ fn takes_default(mode: Mode) -> bool
     ensures { result ≡ takes_default mode }
 {
     match mode {
-        Mode::Verify | Mode::Prune | Mode::Contacts | Mode::Suggest => true,
         Mode::Help | Mode::Version | Mode::Explain => false,
+        _ => true,
     }
 }
 
@@ -284,7 +302,7 @@ fn can_be_mailmap(mode: Mode, contacts: &[u8]) -> bool
     match mode {
         Mode::Verify | Mode::Prune => true,
         Mode::Contacts => contacts != b"-".as_slice(),
-        Mode::Help | Mode::Version | Mode::Explain | Mode::Suggest => false,
+        _ => false,
     }
 }
 
@@ -307,6 +325,7 @@ fn word_of(argument: &[u8]) -> Word
         _ if argument == b"--version".as_slice() => Word::Alone(Mode::Version),
         _ if argument == b"--prune".as_slice() => Word::Mode(Mode::Prune),
         _ if argument == b"--explain".as_slice() => Word::Mode(Mode::Explain),
+        _ if argument == b"--in-place".as_slice() => Word::InPlace,
         _ if argument == b"-S".as_slice() => Word::Next(Setting::Severity),
         _ if argument == b"-e".as_slice() => Word::Next(Setting::Exclude),
         _ if argument == b"-f".as_slice() => Word::Next(Setting::Format),
@@ -373,6 +392,7 @@ fn format_named(name: &[u8]) -> Option<Format>
     match name {
         _ if name == b"gcc".as_slice() => Some(Format::Gcc),
         _ if name == b"json".as_slice() => Some(Format::Json),
+        _ if name == b"github".as_slice() => Some(Format::Github),
         _ => None,
     }
 }

@@ -4,13 +4,15 @@ ghost use Rattle.std.specs.Io.KnownBytes.{IsAtEnd};
 ghost use Rattle.command_line.specs.Failures.{IsOfFile};
 ghost use Rattle.command_line.specs.Files.{texts};
 ghost use Rattle.verify_command.specs.Task.{AreInFiles, AreMailmaps, EndsPrinting, FailsFor, FailsToPrune, FailsToRead, HasLog, IsKnown};
-ghost use Rattle.verify_command.specs.Task.{IsOfMailmap, IsPrunedFrom, Leaves, LeavesFor, NamesMailmap, ReadsInput, reads_contacts};
+ghost use Rattle.verify_command.specs.Task.{IsOfMailmap, IsPrunedFrom, Leaves, LeavesFor, NamesMailmap, ReadsInput, ReplacesFor, reads_contacts};
 ghost use Rattle.verify_command.specs.Task.{reads_mailmap, version_line, wanted_of};
 
 pub use crate::asked::{Mode, ParseError, Request, Setting, USAGE};
 use crate::contacts::{report_contacts, suggest_lines};
 use crate::explanation::explain_contacts;
 use crate::failure::TaskFailure;
+use crate::in_place::prune_in_place;
+pub use crate::replacing::Replacer;
 use crate::report::verify;
 pub use crate::request::request_of;
 use command_line::VERSION;
@@ -27,9 +29,10 @@ use std::io::{Read, Write};
 /// All input is read before anything is written, except with `Mode::Explain`, which answers contacts as they come. The
 /// first failure ends the run. Findings and suggestions are written as they are formatted, so memory can run out after a
 /// prefix of them was written. A mailmap is not pruned if git reads one of its lines in another way; this is a failure,
-/// too.
-pub fn perform<F: FileSystem, R: Read, W: Write>(
+/// too. `Mode::PruneInPlace` writes nothing, and is the only one that replaces files.
+pub fn perform<F: FileSystem, D: Replacer, R: Read, W: Write>(
     system: &F,
+    folder: &mut D,
     alloc: Global,
     request: &Request,
     input: &mut R,
@@ -38,6 +41,10 @@ pub fn perform<F: FileSystem, R: Read, W: Write>(
     // Exactly the text of the mode is written; after a failure, a prefix of it or nothing.
     ensures leaves { LeavesFor request.now.mode (F.at system.now) (R.remaining input.old) (R.remaining input.new)
         (wanted_of request.now) W.contents output.old output.new result }
+
+    // Mailmaps are pruned in their files, or no file is replaced.
+    ensures replaces { ReplacesFor request.now.mode D.has_replaced (F.at system.now) (wanted_of request.now)
+        folder.old folder.new result }
 
     // Standard input is read to its end if it has the contacts or the mailmap, and else not at all. It isn't read
     // either if a mailmap can't be.
@@ -59,6 +66,7 @@ pub fn perform<F: FileSystem, R: Read, W: Write>(
         Mode::Help => print_text(output, USAGE.as_bytes()),
         Mode::Version => print_version(alloc, output),
         Mode::Prune if 1 < request.paths.len() => Err(TaskFailure::TooManyFiles),
+        Mode::PruneInPlace => prune_in_place(system, folder, alloc, request.paths.as_slice()),
         _ => {
             let mailmaps = read_mailmaps(system, alloc, request, input)?;
             let list = list_of(alloc, mailmaps.as_slice())?;

@@ -1,4 +1,4 @@
-use Rattle.std.proofs.Common.{◌≡◌, ◌∙◌, Bor, List, ℕ, ap, if◌then◌else◌, map, subst}
+use Rattle.std.proofs.Common.{◌∙◌, Bor, List, ℕ, ap, if◌then◌else◌, map, subst}
 use Rattle.std.specs.Slice.Iter.{iter_rest}
 use Rattle.command_line.specs.declared.outcome.Outcome.TheVariants.{Clean, Found}
 use Rattle.mailmap_contacts.specs.Counts.{AreContactsOf}

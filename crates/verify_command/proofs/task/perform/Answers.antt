@@ -5,8 +5,8 @@ use Rattle.command_line.specs.declared.failure.Failure.TheVariants.{Memory}
 use Rattle.verify_command.specs.declared.asked.TheConstants.{USAGE}
 use Rattle.verify_command.specs.declared.failure.TaskFailure.TheVariants.{Run}
 use Rattle.std.proofs.lemmas.Result.{IfErr-weaker, on_ok_weaker}
-use Rattle.verify_command.proofs.Failing.{contacts_failed, explained_before, explaining_fails, log_before}
-use Rattle.verify_command.proofs.Leaving.{in_mode, leaves_weaker, left_with, no_mailmap, no_memory, only_verify, too_many_left, unread_mailmaps}
+use Rattle.verify_command.proofs.Failing.{contacts_failed, explained_before, explaining_fails, in_place_fails, log_before, not_of_output}
+use Rattle.verify_command.proofs.Leaving.{all_replaced, in_mode, leaves_weaker, left_with, no_mailmap, no_memory, nothing_left, only_verify, too_many_left, unread_mailmaps}
 use Rattle.verify_command.proofs.task.perform.Goals as goal
 
 abbrev now : Bor (List ℕ) → List ℕ
@@ -25,6 +25,28 @@ returns-in-Version-clause-leaves g c = in_mode g.W.Write.contents _ _ _ (g.F.Fil
 pub returns-in-Prune-clause-leaves : goal.returns-in-Prune-clause-leaves
 returns-in-Prune-clause-leaves g c = in_mode g.W.Write.contents _ _ _ (g.F.FileSystem.at c.args.system.now) (g.R.Read.remaining c.args.input.now) _ (wanted_of c.args.request.now) c.in-Prune.is
     (too_many_left refl)
+
+pub returns-in-PruneInPlace-clause-leaves : goal.returns-in-PruneInPlace-clause-leaves
+returns-in-PruneInPlace-clause-leaves g c =
+    let at = g.F.FileSystem.at c.args.system.now in
+    let w = wanted_of c.args.request.now in
+    let fails = rw c.as_slice.ensures.value at c.prune_in_place.ensures.fails in
+    in_mode g.W.Write.contents _ _ _ at (g.R.Read.remaining c.args.input.now) _ w c.in-PruneInPlace.is
+    (nothing_left c.args.output.now c.prune_in_place.result c.prune_in_place.ensures.clean
+    (IfErr-weaker c.prune_in_place.result _ _ (λ e f. not_of_output at w.paths e f) fails))
+
+pub returns-in-PruneInPlace-clause-fails : goal.returns-in-PruneInPlace-clause-fails
+returns-in-PruneInPlace-clause-fails g c =
+    let at = g.F.FileSystem.at c.args.system.now in
+    let w = wanted_of c.args.request.now in
+    let fails = rw c.as_slice.ensures.value at c.prune_in_place.ensures.fails in
+    IfErr-weaker c.prune_in_place.result _ _ (λ e f. in_place_fails at (g.R.Read.remaining c.args.input.now) w e c.in-PruneInPlace.is f) fails
+
+pub returns-in-PruneInPlace-clause-replaces : goal.returns-in-PruneInPlace-clause-replaces
+returns-in-PruneInPlace-clause-replaces g c =
+    let w = wanted_of c.args.request.now in
+    all_replaced g.D.Replacer.has_replaced _ _ _ w.mode (g.F.FileSystem.at c.args.system.now) w c.in-PruneInPlace.is
+    (rw c.as_slice.ensures.value at c.prune_in_place.ensures.prunes)
 
 pub returns-in_err-mailmaps-in_default-clause-leaves : goal.returns-in_err-mailmaps-in_default-clause-leaves
 returns-in_err-mailmaps-in_default-clause-leaves g c =
@@ -63,7 +85,7 @@ returns-in-Contacts-clause-leaves g c =
     in_mode g.W.Write.contents _ _ _ (g.F.FileSystem.at c.args.system.now) (g.R.Read.remaining c.args.input.now) _ (wanted_of c.args.request.now) c.in-Contacts.is
     (left_with (IsReportBeside w) (g.F.FileSystem.at c.args.system.now) (g.R.Read.remaining c.args.input.now) _ w
     (map now c.as_slice-buffers.result.now) (ap takes_contacts c.in-Contacts.is)
-    (λ no. ap (λ i. g.R.Read.remaining i) (c.read_mailmaps.ensures.unread no)) (rw (c.as_slice-buffers.ensures.value, c.in_ok-list-in_default.ensures, c.as_slice.ensures.value) c.in_ok-mailmaps-in_default.ensures.ok) c.report_contacts.ensures.leaves)
+    (λ no. ap (λ i. g.R.Read.remaining i) (c.read_mailmaps.ensures.unread no)) (rw (c.as_slice-buffers.ensures.value, c.in_ok-list-in_default.ensures, c.as_slice-in_default.ensures.value) c.in_ok-mailmaps-in_default.ensures.ok) c.report_contacts.ensures.leaves)
 
 pub returns-in-Suggest-clause-leaves : goal.returns-in-Suggest-clause-leaves
 returns-in-Suggest-clause-leaves g c =
@@ -78,7 +100,7 @@ returns-clause-leaves g c =
     let mailmaps = map now c.as_slice-buffers.result.now in
     let are : AreMailmaps (g.F.FileSystem.at c.args.system.now) (g.R.Read.remaining c.args.input.now) (wanted_of c.args.request.now) mailmaps = search rules in
     in_mode g.W.Write.contents _ _ _ (g.F.FileSystem.at c.args.system.now) (g.R.Read.remaining c.args.input.now) _ (wanted_of c.args.request.now)
-    (only_verify c.args.request.now.mode (search rules) (search rules) (search rules) (search rules) (search rules) (search rules))
+    (only_verify c.args.request.now.mode (search rules) (search rules) (search rules) (search rules) (search rules) (search rules) (search rules))
     (leaves_weaker (λ o t made. (mailmaps, are, made)) c.verify.ensures.leaves)
 
 pub returns-in-Explain-clause-refuses : goal.returns-in-Explain-clause-refuses
@@ -106,7 +128,7 @@ pub returns-in-Contacts-clause-fails : goal.returns-in-Contacts-clause-fails
 returns-in-Contacts-clause-fails g c =
     let w = wanted_of c.args.request.now in
     let takes = ap takes_contacts c.in-Contacts.is in
-    IfErr-weaker c.report_contacts.result _ _ (λ e fails. contacts_failed (g.F.FileSystem.at c.args.system.now) (g.R.Read.remaining c.args.input.now) (g.R.Read.remaining c.read_mailmaps.new.input) w (map now c.as_slice-buffers.result.now) e takes (rw (c.as_slice-buffers.ensures.value, c.in_ok-list-in_default.ensures, c.as_slice.ensures.value) c.in_ok-mailmaps-in_default.ensures.ok)
+    IfErr-weaker c.report_contacts.result _ _ (λ e fails. contacts_failed (g.F.FileSystem.at c.args.system.now) (g.R.Read.remaining c.args.input.now) (g.R.Read.remaining c.read_mailmaps.new.input) w (map now c.as_slice-buffers.result.now) e takes (rw (c.as_slice-buffers.ensures.value, c.in_ok-list-in_default.ensures, c.as_slice-in_default.ensures.value) c.in_ok-mailmaps-in_default.ensures.ok)
     (λ dash. ap (λ i. g.R.Read.remaining i) (c.read_mailmaps.ensures.unread (no_mailmap w.mode w.contacts (has_none w.paths) takes dash))) fails) c.report_contacts.ensures.fails
 
 pub returns-in-Suggest-clause-refuses : goal.returns-in-Suggest-clause-refuses
