@@ -8,7 +8,7 @@ from findings import (
     Mailmaps, behind, contact_text, error, findings, note, origins, position_text, positions_text, short_contact_text,
     warning
 )
-from git import git_answer, git_entries_of
+from git import git_answer, git_contact_of, git_entries_of
 from mailmap import answer, contact_of, lines, new_fields, trim
 from shown import alike_text, shortened, shown
 from suggest import BY_EMAIL, is_remembered, proper, suggested_blocks, tallied, tallies_of
@@ -86,14 +86,15 @@ def said_of_block(block, answers):
     return (said_of_shared_email if is_of_shared_email else said_of_others)(block, answers)
 
 
-def other_git_answers(mailmaps, gits, contacts):
-    """The number of the first line of each contact to which git answers something else, and git's answer."""
-    first = {}
-    for number, contact in contacts:
-        first.setdefault(contact, number)
-    for contact, number in first.items():
-        if git_answer(gits, *contact) != answer(mailmaps.merged, *contact):
-            yield number, git_answer(gits, *contact)
+def other_git_answers(mailmaps, gits, numbered):
+    """git's answer to each contact, as git reads it, that it answers otherwise, and the number of the first line."""
+    known = set()
+    for number, contact, line in numbered:
+        read = git_contact_of(line)
+        if read and read not in known:
+            known.add(read)
+            if git_answer(gits, *read) != answer(mailmaps.merged, *contact):
+                yield number, git_answer(gits, *read)
 
 
 # what is said on a line is in this order
@@ -114,10 +115,9 @@ def said_of_contacts(mailmaps, buffers, text):
     answers = tallied((answer(mailmaps.merged, *one.contact), one.count, one.line) for one in tallies)
     for block in suggested_blocks(buffers, tallies):
         said += [] if is_remembered(buffers, block) else said_of_block(block, answers)
-    contacts = [(number, contact) for number, contact, _ in numbered if contact]
     said += [
         (number, warning(b"git answers " + short_contact_text(*other), b"git-answers"))
-        for number, other in other_git_answers(mailmaps, git_entries_of(buffers), contacts)
+        for number, other in other_git_answers(mailmaps, git_entries_of(buffers), numbered)
     ]
     return sorted(said, key=place)
 

@@ -1,11 +1,12 @@
-"""The model of git's grammar for a line of a mailmap, and of its answers.
+"""The model of git's grammar for a line of a mailmap and for a line of contacts, and of its answers.
 
-The definitions are in `specs` of `mailmap_findings` (`Git`, `GitAnswers`) and of `mailmap_redundancy` (`Origins`).
+The definitions are in `specs` of `mailmap_findings` (`Git`, `GitAnswers`), of `mailmap_suggestions` (`GitContacts`) and
+of `mailmap_redundancy` (`Origins`).
 """
 from mailmap import Entry, accepted, cut, entry_of, folded, last_given, lines
 from shown import shortened
 
-# git trims only these, and only from names
+# git trims only these, and only from names, of contacts only at their ends
 WHITE_SPACE = b" \t\r\n"
 # git reads this many bytes of a line at a time
 PART = 1023
@@ -30,6 +31,12 @@ def git_entries(line):
     """The entries that git reads from a line. Each part of the line can have one."""
     parts = [line[start:start + PART] for start in range(0, len(line), PART)]
     return [entry for entry in map(entry_of_part, parts) if entry]
+
+
+def git_contact_of(line):
+    """The contact on a line, or None: its name, trimmed at its end only, and its email. A zero byte ends the line."""
+    parts = cut(line.split(b"\0")[0])
+    return (parts[0].rstrip(WHITE_SPACE), parts[1]) if parts else None
 
 
 def reads_otherwise(line):

@@ -5,9 +5,9 @@ use Rattle.std.proofs.lemmas.List.{length-append, set-get_or, set_split}
 use Rattle.std.proofs.lemmas.List.Elements.{All-from_recursion, All-get_or}
 use Rattle.std.proofs.lemmas.Grind.{common_steps, flat_map-append}
 use Rattle.mailmap_entries.specs.Folding.{Text}
-use Rattle.mailmap_grammar.specs.Lines.{Absent, cut, split_once, trimmed_contact}
+use Rattle.mailmap_grammar.specs.Lines.{Absent, cut, split_once}
 use Rattle.mailmap_grammar.proofs.Trimmed.{trim-nil}
-use Rattle.contact_counter.specs.Contacts.{no_contacts_from, unless_contact, Contact, Tally, both_seen, contacts_from, line_tally, seen_where}
+use Rattle.contact_counter.specs.Contacts.{no_contacts_from, unless_contact, Contact, Tally, both_seen, raw_contacts_from, raw_line_tally, seen_where}
 use Rattle.contact_counter.specs.Counts.{Counter, HasCounted, SameTallies, slot_tally}
 use Rattle.contact_counter.specs.declared.counter.Slot.{Slot}
 use Rattle.contact_counter.specs.declared.occurrences.Occurrences.{Occurrences}
@@ -15,19 +15,19 @@ use Rattle.contact_counter.proofs.Sums.{both_swap, same_more, seen-append}
 
 -- ---- one more line
 
-pub contacts_from-push : (n : ℕ) (xs : List Text) (line : Text) → contacts_from n (xs ++ line ∷ []) ≡ contacts_from n xs ++ line_tally (n + length xs) line
-contacts_from-push n [] line = append-nil (line_tally n line) ∙ ap (λ k. line_tally k line) (sym (add-zero n))
-contacts_from-push n (x ∷ xs) line = grind (arith, common_steps, contacts_from-push (n + 1) xs line)
+pub raw_contacts_from-push : (n : ℕ) (xs : List Text) (line : Text) → raw_contacts_from n (xs ++ line ∷ []) ≡ raw_contacts_from n xs ++ raw_line_tally (n + length xs) line
+raw_contacts_from-push n [] line = append-nil (raw_line_tally n line) ∙ ap (λ k. raw_line_tally k line) (sym (add-zero n))
+raw_contacts_from-push n (x ∷ xs) line = grind (arith, common_steps, raw_contacts_from-push (n + 1) xs line)
 
 pub no_contacts_from-push : (n : ℕ) (xs : List Text) (line : Text) → no_contacts_from n (xs ++ line ∷ []) ≡ no_contacts_from n xs ++ unless_contact (n + length xs) line
 no_contacts_from-push n [] line = search (rules, add-zero, append-nil)
 no_contacts_from-push n (x ∷ xs) line = grind (arith, common_steps, no_contacts_from-push (n + 1) xs line)
 
 pub counted_line : (lines : List Text) (line : Text) (s t : Counter) → HasCounted lines s → t.lines ≡ s.lines + 1
-    → SameTallies t.contacts.tallies (s.contacts.tallies ++ line_tally (s.lines + 1) line)
+    → SameTallies t.contacts.tallies (s.contacts.tallies ++ raw_line_tally (s.lines + 1) line)
     → t.contacts.lines_without_contact ≡ s.contacts.lines_without_contact ++ unless_contact (s.lines + 1) line
     → HasCounted (lines ++ line ∷ []) t
-counted_line lines line s t counted number same none = search (rules, contacts_from-push, length-append, no_contacts_from-push, same_more)
+counted_line lines line s t counted number same none = search (rules, raw_contacts_from-push, length-append, no_contacts_from-push, same_more)
 
 -- ---- slots
 
@@ -72,9 +72,9 @@ slot_line slots i d lt there all = search (rules, All-get_or, All-from_recursion
 
 -- ---- an unused slot
 
-none_in : (t : Text) → t ≡ [] → trimmed_contact (cut t) ≡ Absent
+none_in : (t : Text) → t ≡ [] → cut t ≡ Absent
 unfolding split_once
-none_in t is = ap (λ s. trimmed_contact (cut s)) is
+none_in t is = ap cut is
 
 no_tally : (s : Slot) → s.line.items ≡ [] → slot_tally s ≡ []
 no_tally s is = search (rules, none_in, trim-nil)

@@ -15,7 +15,7 @@ use Rattle.std.proofs.lemmas.Map.Keys.{IsDistinct-IsPermutation}
 use Rattle.std.proofs.lemmas.Grind.{common_steps}
 use Rattle.mailmap_entries.specs.Folding.{Text}
 use Rattle.mailmap_entries.proofs.Parts.{all_apply, all_map, all_mapped, all_weaker}
-use Rattle.contact_counter.specs.Contacts.{AreTallies, Contact, Tally, both_seen, contact_cmp, contacts_from, once, same_contact, seen_where, tallied}
+use Rattle.contact_counter.specs.Contacts.{AreTallies, Contact, Tally, both_seen, contact_cmp, once, raw_contacts_from, read_by, same_contact, seen_where, tallied}
 use Rattle.contact_counter.specs.Counts.{SameTallies}
 use Rattle.contact_counter.specs.declared.occurrences.Occurrences.{Occurrences}
 pub use Rattle.contact_counter.proofs.Entries.{then_eq}
@@ -213,15 +213,25 @@ tallied_ascend (t ∷ ts) up =
       IsStrictlySortedBy-filter line_cmp (λ u. not (same t u)) (tallied ts) (tallied_ascend ts up.1),
     )
 
-contacts_later : (m n : ℕ) (lines : List Text) → m < n → AllByRecursion (Later m) (contacts_from n lines)
-contacts_later m n [] lt = tt
-contacts_later m n (l ∷ ls) lt = search (rules, contacts_later m (n + 1) ls)
+raw_later : (m n : ℕ) (lines : List Text) → m < n → AllByRecursion (Later m) (raw_contacts_from n lines)
+raw_later m n [] lt = tt
+raw_later m n (l ∷ ls) lt = search (rules, raw_later m (n + 1) ls)
 
-pub contacts_ascend : (n : ℕ) (lines : List Text) → Ascend (contacts_from n lines)
+raw_ascend : (n : ℕ) (lines : List Text) → Ascend (raw_contacts_from n lines)
 unfolding IsStrictlySortedBy
-contacts_ascend n [] = tt
-contacts_ascend n (l ∷ ls) = grind (arith, common_steps, contacts_ascend (n + 1) ls, contacts_later n (n + 1) ls)
+raw_ascend n [] = tt
+raw_ascend n (l ∷ ls) = grind (arith, common_steps, raw_ascend (n + 1) ls, raw_later n (n + 1) ls)
 
--- the contacts on lines, each once
-pub sorted_tallies : (lines : List Text) (us vs : List Tally) → AreTallies (contacts_from 1 lines) us → IsPermutation us vs → NoneBefore line_cmp vs → vs ≡ tallied (contacts_from 1 lines)
-sorted_tallies lines us vs are moved up = search (rules, one_list, on_total, nat_cmp_total, tallied_ascend, contacts_ascend)
+-- they come where they come as they are
+read_ascend : (read : Contact → Contact) (ts : List Tally) → Ascend ts → Ascend (map (read_by read) ts)
+unfolding IsStrictlySortedBy
+read_ascend read [] up = tt
+read_ascend read (t ∷ ts) up = (all_mapped (read_by read) (Later t.seen.first_line) ts up.0, read_ascend read ts up.1)
+
+-- the contacts on lines as they are read, each once
+pub sorted_tallies : (read : Contact → Contact) (lines : List Text) (us vs : List Tally) → AreTallies (map (read_by read) (raw_contacts_from 1 lines)) us
+    → IsPermutation us vs → NoneBefore line_cmp vs → vs ≡ tallied (map (read_by read) (raw_contacts_from 1 lines))
+sorted_tallies read lines us vs are moved up =
+    let ts = map (read_by read) (raw_contacts_from 1 lines) in
+    let all = tallied_ascend ts (read_ascend read (raw_contacts_from 1 lines) (raw_ascend 1 lines)) in
+    search (rules, one_list, on_total, nat_cmp_total)

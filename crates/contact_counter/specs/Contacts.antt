@@ -9,7 +9,7 @@ use Rattle.std.specs.declared.cmp.Ordering.{Ordering}
 use Rattle.mailmap_entries.specs.Entries.{Mapping}
 use Rattle.mailmap_entries.specs.Folding.{Text, text_cmp}
 use Rattle.mailmap_entries.specs.Semantics.{fields_for}
-use Rattle.mailmap_grammar.specs.Lines.{ParsedContact, Absent, Unclosed, Closed, contact_in}
+use Rattle.mailmap_grammar.specs.Lines.{ParsedContact, Absent, Unclosed, Closed, contact_in, cut}
 use Rattle.mailmap_grammar.specs.Trimming.{trim}
 use Rattle.contact_counter.specs.declared.occurrences.Occurrences.{Occurrences}
 
@@ -59,6 +59,29 @@ line_tally number line = tally_on (contact_on (contact_in line)) (once number)
 abbrev pub contacts_from : ℕ → List Text → List Tally
 contacts_from number [] = []
 contacts_from number (line ∷ rest) = line_tally number line ++ contacts_from (number + 1) rest
+
+-- ---- the contacts as they are
+
+-- the texts before the brackets of a line and in them
+abbrev pub raw_contact : Text → Option Contact
+raw_contact line = contact_on (cut line)
+
+abbrev pub raw_line_tally : ℕ → Text → List Tally
+raw_line_tally number line = tally_on (raw_contact line) (once number)
+
+abbrev pub raw_contacts_from : ℕ → List Text → List Tally
+raw_contacts_from number [] = []
+raw_contacts_from number (line ∷ rest) = raw_line_tally number line ++ raw_contacts_from (number + 1) rest
+
+-- without the white space around its texts
+abbrev pub trimmed : Contact → Contact
+trimmed c = record { name = trim c.name; email = trim c.email }
+
+-- a contact that is read in some way, where it comes as it is
+abbrev pub read_by : (Contact → Contact) → Tally → Tally
+read_by read t = record { contact = read t.contact; seen = t.seen }
+
+-- ---- lines without a contact
 
 -- the number of a line that is neither blank nor a contact
 abbrev pub unless_contact : ℕ → Text → List ℕ

@@ -7,8 +7,7 @@ use Rattle.std.specs.List.Sorted.{IsStrictlySortedBy}
 use Rattle.std.specs.Map.{keys_of, lookup}
 use Rattle.std.specs.declared.cmp.Ordering.{Ordering}
 use Rattle.mailmap_entries.specs.Folding.{Text}
-use Rattle.mailmap_grammar.specs.Lines.{contact_in}
-use Rattle.contact_counter.specs.Contacts.{Contact, Tally, contact_on, contacts_from, no_contacts_from, seen_where, sum_of, tally_on}
+use Rattle.contact_counter.specs.Contacts.{Contact, Tally, no_contacts_from, raw_contact, raw_contacts_from, seen_where, sum_of, tally_on}
 use Rattle.contact_counter.specs.declared.counter.Slot.{Slot}
 use Rattle.contact_counter.specs.declared.occurrences.Occurrences.{Occurrences}
 use Rattle.contact_counter.specs.declared.tallies.Tally.{Tally as TheTally}
@@ -30,14 +29,15 @@ SameTallies ts us = (test : Contact → Bool) → seen_where test ts ≡ seen_wh
 
 -- ---- contacts of lines
 
--- tallies of contacts, which may be in several of them, and the numbers of the lines that are neither blank nor contacts
+-- tallies of contacts as they are, each of which may have several; and the numbers of the lines that are neither blank nor
+-- contacts
 pub record Tallied : Type 0 where
   pub tallies : List Tally
   pub lines_without_contact : List ℕ
 
 -- these are the contacts on these lines
 pub record AreContactsOf (lines : List Text) (s : Tallied) : Type 0 where
-  pub tallies : SameTallies s.tallies (contacts_from 1 lines)
+  pub tallies : SameTallies s.tallies (raw_contacts_from 1 lines)
   pub lines_without_contact : s.lines_without_contact ≡ no_contacts_from 1 lines
 
 -- the same, with the number of the lines
@@ -60,7 +60,7 @@ abbrev pub key_tally : (Vec ℕ × Vec ℕ) × Occurrences → Tally
 key_tally e = record { contact = key_contact e.0; seen = e.1 }
 
 abbrev pub slot_tally : Slot → List Tally
-slot_tally s = tally_on (contact_on (contact_in s.line.items)) s.seen
+slot_tally s = tally_on (raw_contact s.line.items) s.seen
 
 -- the specification's view of a contact or an answer
 abbrev pub tally_of : TheTally → Tally

@@ -1,14 +1,15 @@
 //! Counts the contacts of a history, of which a few may come very often.
 ghost use Rattle.std.specs.Prelude.{◌≡◌, ◌++◌, ◌∷◌, [], IfOk, IsFalse, IsTrue, List, OnOk, ℕ, length, map};
 ghost use Rattle.std.specs.List.{AllByRecursion, flat_map};
+ghost use Rattle.std.specs.Option.{option_map};
 ghost use Rattle.bstr.specs.Text.{lines_of};
 ghost use Rattle.mailmap_entries.specs.Folding.{Text};
-ghost use Rattle.contact_counter.specs.Contacts.{line_tally, once, unless_contact};
+ghost use Rattle.contact_counter.specs.Contacts.{once, raw_contact, raw_line_tally, unless_contact};
 ghost use Rattle.contact_counter.specs.Counts.{AreContactsOf, HasCounted, SameTallies, key_tally, slot_tally};
 
 use crate::occurrences::{Occurrences, add_to, sum_of};
 use bstr::ByteSlice;
-use mailmap_grammar::contacts::{ParsedContact, contact_of, trim};
+use mailmap_grammar::contacts::trim;
 use mailmap_grammar::hashing::hash_of;
 use std::alloc::{AllocError, Global};
 use std::collections::BTreeMap;
@@ -21,8 +22,8 @@ const SLOTS: usize = 16384;
 // The length of the longest line that is kept in a slot.
 const LONGEST: usize = 256;
 
-/// The distinct contacts of a history, each with its occurrences, and the numbers of the lines that are neither
-/// blank nor contacts.
+/// The distinct contacts of a history as they are, with the white space around their texts, each with its occurrences;
+/// and the numbers of the lines that are neither blank nor contacts.
 #[derive(Drop)]
 pub struct Contacts {
     pub(crate) tallies: BTreeMap<(Vec<u8>, Vec<u8>), Occurrences>,
@@ -133,7 +134,7 @@ impl ContactCounter {
 }
 
 impl Contacts {
-    /// The occurrences of each contact, by its name and its email.
+    /// The occurrences of each contact, by the texts before its brackets and in them.
     pub fn tallies(&self) -> &BTreeMap<(Vec<u8>, Vec<u8>), Occurrences>
         ensures { map key_tally result.now.entries ≡ self.now.tallies }
     {
@@ -150,7 +151,7 @@ impl Contacts {
     // Adds a line. A contact that isn't in its slot takes it, unless its line is long.
     fn add_line(&mut self, slot: &mut Slot, line: &[u8], number: usize) -> Result<(), AllocError>
         ensures tallies { OnOk result (SameTallies (self.new.tallies ++ slot_tally slot.new)
-            ((self.old.tallies ++ slot_tally slot.old) ++ line_tally number line.now)) }
+            ((self.old.tallies ++ slot_tally slot.old) ++ raw_line_tally number line.now)) }
         ensures lines_without_contact { ((n : ℕ) → unless_contact n slot.old.line.items ≡ [])
             → OnOk result (self.new.lines_without_contact
             ≡ self.old.lines_without_contact ++ unless_contact number line.now) }
@@ -160,7 +161,7 @@ impl Contacts {
         if count_again(slot, line, number) {
             return Ok(());
         }
-        let ParsedContact::Closed { name, email, .. } = contact_of(line) else {
+        let Some((name, email)) = raw_contact(line) else {
             if !trim(line).is_empty() {
                 self.lines_without_contact.push(number)?;
             }
@@ -180,9 +181,9 @@ impl Contacts {
         ensures tallies { OnOk result (SameTallies self.new.tallies (self.old.tallies ++ slot_tally slot)) }
         ensures lines_without_contact { self.new.lines_without_contact ≡ self.old.lines_without_contact }
     {
-        match contact_of(slot.line.as_slice()) {
-            ParsedContact::Closed { name, email, .. } => self.add_contact(name, email, slot.seen),
-            _ => Ok(()),
+        match raw_contact(slot.line.as_slice()) {
+            Some((name, email)) => self.add_contact(name, email, slot.seen),
+            None => Ok(()),
         }
     }
 
@@ -201,6 +202,17 @@ impl Contacts {
         let email = Vec::from_slice(alloc, email)?;
         add_to(&mut self.tallies, (name, email), seen)
     }
+}
+
+// The texts before the brackets of a line and in them.
+#[tactic(auto, using(mailmap_grammar::proofs::SplitOnce::split_laws))]
+fn raw_contact(line: &[u8]) -> Option<(&[u8], &[u8])>
+    ensures { option_map (λ c. record { name = c.0.now; email = c.1.now }) result ≡ raw_contact line.now }
+{
+    let opening = line.find_byte(b'<')?;
+    let after = &line[opening + 1..];
+    let closing = after.find_byte(b'>')?;
+    Some((&line[..opening], &after[..closing]))
 }
 
 fn once_on(line: usize) -> Occurrences
@@ -233,7 +245,7 @@ fn empty_slots(alloc: Global) -> Result<Vec<Slot>, AllocError>
 fn count_again(slot: &mut Slot, line: &[u8], number: usize) -> bool
     ensures own { IsTrue result → slot.old.line.items ≡ line.now }
     ensures again { IsTrue result → SameTallies (slot_tally slot.new)
-        (slot_tally slot.old ++ line_tally number line.now) }
+        (slot_tally slot.old ++ raw_line_tally number line.now) }
     ensures line { slot.new.line.items ≡ slot.old.line.items }
     ensures other { IsFalse result → slot.new ≡ slot.old }
 {

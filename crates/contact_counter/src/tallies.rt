@@ -2,11 +2,12 @@
 ghost use Rattle.std.specs.Prelude.{◌≡◌, IfOk, List, map};
 ghost use Rattle.mailmap_entries.specs.Folding.{Text};
 ghost use Rattle.contact_counter.specs.Contacts as contacts;
-ghost use Rattle.contact_counter.specs.Contacts.{AreTallies, contacts_from, tallied};
+ghost use Rattle.contact_counter.specs.Contacts.{AreTallies, contacts_from, raw_contacts_from, read_by, tallied};
 ghost use Rattle.contact_counter.specs.Counts.{AreContactsOf, SameTallies, answer_key_tally, tally_of};
 
 use crate::counter::Contacts;
-use crate::occurrences::Occurrences;
+use crate::occurrences::{Occurrences, add_to};
+use mailmap_grammar::contacts::trim;
 use std::alloc::{AllocError, Global};
 use std::collections::BTreeMap;
 
@@ -19,22 +20,34 @@ pub struct Tally<'a> {
 }
 
 impl Contacts {
-    /// The distinct contacts, in the order of their first lines. No text is copied.
+    /// The distinct contacts without the white space around their texts, in the order of their first lines. No text is
+    /// copied.
     pub fn in_order<'c>(&'c self, alloc: Global) -> Result<Vec<Tally<'c>>, AllocError>
         ensures { (lines : List Text) → AreContactsOf lines self.now
             → IfOk result (λ all. map tally_of all.items ≡ tallied (contacts_from 1 lines)) }
     {
-        let mut all = Vec::with_capacity(alloc, self.tallies.len())?;
+        let mut tallies = BTreeMap::new(alloc);
         for ((name, email), seen) in self.tallies.iter() {
-            all.push(Tally {
-                name: name.as_slice(),
-                email: email.as_slice(),
-                seen: *seen,
-            })?;
+            let contact = (trim(name.as_slice()), trim(email.as_slice()));
+            add_to(&mut tallies, contact, *seen)?;
         }
-        all.sort_unstable_by_key(|tally| tally.seen.first_line);
-        Ok(all)
+        by_first_lines(alloc, tallies)
     }
+}
+
+/// Contacts that were read in some way, in the order of their first lines.
+pub fn by_first_lines<'c>(
+    alloc: Global,
+    tallies: BTreeMap<(&'c [u8], &'c [u8]), Occurrences>,
+) -> Result<Vec<Tally<'c>>, AllocError>
+    ensures { (read : contacts.Contact → contacts.Contact) (lines : List Text)
+        → let ts = map (read_by read) (raw_contacts_from 1 lines) in
+        SameTallies (map answer_key_tally tallies.entry.entries) ts
+        → IfOk result (λ all. map tally_of all.items ≡ tallied ts) }
+{
+    let mut all = answers_in(alloc, tallies)?;
+    all.sort_unstable_by_key(|tally| tally.seen.first_line);
+    Ok(all)
 }
 
 /// The answers in a map, sorted by name and email.

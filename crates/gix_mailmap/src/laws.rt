@@ -1,6 +1,6 @@
 //! Laws about the definitions. These functions do nothing: each states its law in its contract.
 
-pub use mailmap_contacts::laws::{law_line_feeds, law_tallied};
+pub use mailmap_contacts::laws::{law_line_feeds, law_tallied, law_trimmed};
 pub use mailmap_entries::laws::{law_entries, law_order, law_order_without_case};
 pub use mailmap_entries::semantics::{
     law_condense, law_equal, law_exists, law_headline, law_neighbours, law_of_email, law_one_email,

@@ -11,8 +11,8 @@ use Rattle.mailmap_contacts.specs.Contacts.{seen_where, tallied}
 use Rattle.mailmap_contacts.specs.Proper.{proper}
 use Rattle.contact_counter.specs.declared.occurrences.Occurrences.{Occurrences}
 use Rattle.mailmap_entries.specs.Folding.{Text}
-use Rattle.mailmap_suggestions.specs.Counted.{other_git_answers}
 use Rattle.mailmap_suggestions.specs.Forms.{Histories}
+use Rattle.mailmap_suggestions.specs.GitContacts.{git_answers_otherwise}
 use Rattle.mailmap_suggestions.specs.Histories.{histories_of}
 use Rattle.mailmap_suggestions.specs.Shared.{shared_emails}
 use Rattle.mailmap_suggestions.specs.Suggestions.{AreGroupClasses, GroupClasses, Kind, Suggestion, by_alike_names}
@@ -103,7 +103,7 @@ abbrev pub findings_about : List Suggestion → Histories → List Text → List
 findings_about found h lines =
     let ts = tallied (contacts_from 1 lines) in
     map no_contact (no_contacts_from 1 lines) ++ flat_map (group_findings (map (answered h.ours) ts)) found
-    ++ map git_answers (other_git_answers h ts)
+    ++ map git_answers (git_answers_otherwise h lines)
 
 -- with suggestions by these classes
 abbrev pub contact_findings : GroupClasses → List Text → Histories → List Text → List ContactFinding

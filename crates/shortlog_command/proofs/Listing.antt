@@ -19,11 +19,12 @@ use Rattle.mailmap_entries.proofs.Normal.{alike_normal}
 use Rattle.mailmap_entries.proofs.Parts.{all_map, all_mapped, all_weaker}
 use Rattle.std.specs.Result.{IsErrOf}
 use Rattle.command_line.specs.declared.failure.Failure.TheVariants.{Output}
-use Rattle.command_line.specs.Leaving.{LeavesText}
+use Rattle.command_line.specs.Printing.{LeavesText}
 use Rattle.command_line.specs.declared.failure.Failure.{Failure}
-use Rattle.contact_counter.specs.Contacts.{AreTallies, Contact, Tally, answer_to, both_seen, contact_on, contacts_from, once, same_contact, seen_where, tally_on}
+use Rattle.contact_counter.specs.Contacts.{AreTallies, Contact, Tally, answer_to, both_seen, contact_on, contacts_from, once, read_by, same_contact, seen_where, tally_on, trimmed}
 use Rattle.contact_counter.specs.Counts.{AreContactsOf, SameTallies, Tallied}
 use Rattle.contact_counter.specs.declared.occurrences.Occurrences.{Occurrences}
+use Rattle.contact_counter.proofs.RawContacts.{trimmed_same}
 use Rattle.contact_counter.proofs.Steps.{permuted, permuted_back}
 use Rattle.contact_counter.proofs.Sums.{mapped, same_mapped, seen-mapped}
 use Rattle.contact_counter.proofs.Tallied.{at_seen, map_tallies, of_tallies}
@@ -131,7 +132,7 @@ pub shortlog_made : (by_count with_email : Bool) (buffers : List Text) (snapshot
     → IsNormal (flat_map mappings_of buffers) snapshot
     → (text : Text) (contacts : Tallied) (es listed : List (Answer × Occurrences))
     → AreContactsOf (lines_of text) contacts
-    → SameTallies (map answer_tally es) (map (text_tally with_email snapshot) contacts.tallies)
+    → SameTallies (map answer_tally es) (map (text_tally with_email snapshot) (map (read_by trimmed) contacts.tallies))
     → IsStrictlySortedBy answer_cmp (keys_of es) → IsPermutation es listed
     → IsStrictlySortedBy (order by_count) (map answer_counted listed)
     → IsShortlog by_count (answers_counted with_email buffers text) (flat_map counted_text (map answer_counted listed))
@@ -140,8 +141,8 @@ shortlog_made by_count with_email buffers snapshot normal text contacts es liste
     let lines = lines_of text in
     let ours : SameTallies (map answer_tally es) (tallied_texts with_email h lines) = λ test. same test
     ∙ (λ i. seen_where test (map (mapped (λ c. alone (answer_text with_email (same_answer h snapshot normal c i))))
-    contacts.tallies)) ∙ same_mapped (λ c. alone (answer_text with_email (answer_to h c))) contacts.tallies
-    (contacts_from 1 lines) are.tallies test in (
+    (map (read_by trimmed) contacts.tallies))) ∙ same_mapped (λ c. alone (answer_text with_email (answer_to h c)))
+    (map (read_by trimmed) contacts.tallies) (contacts_from 1 lines) (trimmed_same lines contacts are) test in (
       map answer_counted listed,
       listing with_email h by_count lines es listed
           (map_tallies (λ (a : Answer). alone (printed a)) es (tallied_texts with_email h lines)

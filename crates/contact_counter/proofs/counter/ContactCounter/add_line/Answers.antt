@@ -1,6 +1,6 @@
 use Rattle.std.proofs.Common.{rules, ◌≡◌, ◌∙◌, ◌+◌, ◌<◌, ◌++◌, ap, arith, bit_and, get_or, length}
 use Rattle.std.proofs.lemmas.Nat.{and_le_r}
-use Rattle.contact_counter.specs.Contacts.{line_tally, seen_where, unless_contact}
+use Rattle.contact_counter.specs.Contacts.{raw_line_tally, seen_where, unless_contact}
 use Rattle.contact_counter.proofs.Counting.{counted_line, slot_changed, slot_line}
 use Rattle.contact_counter.proofs.counter.ContactCounter.add_line.Goals as goal
 
@@ -18,7 +18,7 @@ returns c =
     let added = c.in_ok-add_line.ensures in
     λ lines counted. counted_line lines line c.args.self.now _ counted is (λ test.
     slot_changed cs.tallies c.add_line.new.self.tallies slots i c.add_line.new.slot slot
-    (line_tally c.in-Some.number line) within there added.tallies test
-    ∙ (λ j. seen_where test ((c.self.view_is j).contacts.tallies ++ line_tally (is j) line)))
+    (raw_line_tally c.in-Some.number line) within there added.tallies test
+    ∙ (λ j. seen_where test ((c.self.view_is j).contacts.tallies ++ raw_line_tally (is j) line)))
     (added.lines_without_contact (slot_line slots i slot within there c.self.invariant.0)
     ∙ (λ j. (c.self.view_is j).contacts.lines_without_contact ++ unless_contact (is j) line))
