@@ -1,19 +1,19 @@
 //! Counts the contacts of an input while it is read.
 ghost use Rattle.std.specs.Prelude.{◌≡◌, ◌++◌, ◌⊎◌, List, ℕ, IfErr, IfOk, IfSome, IsErrOf, OnOk, false, true};
-ghost use Rattle.std.specs.Io.KnownBytes.{IsAtEnd};
+ghost use Rattle.std.specs.Io.KnownBytes.{Consumes, IsAtEnd};
 ghost use Rattle.bstr.specs.Text.{lines_of};
 ghost use Rattle.contact_counter.specs.Counts.{AreContactsOf, HasCounted};
 ghost use Rattle.command_line.specs.Failures.{IsOfInput};
 ghost use Rattle.contact_input.specs.Counted.{HasCountedRead};
-ghost use Rattle.contact_input.specs.GitLog.{is_git_log};
+ghost use Rattle.contact_input.specs.GitLog.{IsLog};
 
 use crate::start::read_start;
 use bstr::ByteSlice;
 use command_line::failure::Failure;
-use command_line::streams::{PART, read_part};
+use command_line::streams::{PART, endless, read_part};
 use contact_counter::counter::{ContactCounter, Contacts};
 use std::alloc::{AllocError, Global};
-use std::io::{ErrorKind, Read};
+use std::io::Read;
 
 /// Counts the contacts on the lines of the rest of a reader.
 ///
@@ -24,30 +24,38 @@ pub fn count_contacts<R: Read>(alloc: Global, input: &mut R) -> Result<Contacts,
     ensures counts { IfOk result (λ contacts. (text : List ℕ) × IfSome (R.remaining input.old) (λ bytes. text ≡ bytes)
         × AreContactsOf (lines_of text) contacts) }
     ensures end { OnOk result (IsAtEnd (R.remaining input.new)) }
-    ensures contacts { OnOk result (IfSome (R.remaining input.old) (λ bytes. is_git_log bytes ≡ false)) }
-    ensures git_log { IsErrOf result Failure.GitLog → IfSome (R.remaining input.old) (λ bytes. is_git_log bytes ≡ true) }
+    ensures contacts { OnOk result (IsLog (R.remaining input.old) false) }
+    ensures git_log { IsErrOf result Failure.GitLog → IsLog (R.remaining input.old) true }
     ensures only { IfErr result (λ e. IsOfInput e ⊎ (e ≡ Failure.Memory) ⊎ (e ≡ Failure.GitLog)) }
 {
-    let start = read_start(alloc, input)?;
+    let mut partial = read_start(alloc, input)?;
     let mut contacts = ContactCounter::new(alloc)?;
-    let mut partial = Vec::new(alloc);
-    add_part(&mut contacts, &mut partial, start.as_slice())?;
+    count_rest(input, &mut partial, &mut contacts)?;
+    Ok(contacts.into_contacts()?)
+}
+
+// Counts the contacts on the lines of the rest of a reader, after `partial`, which was read before.
+fn count_rest<R: Read>(
+    input: &mut R,
+    partial: &mut Vec<u8>,
+    contacts: &mut ContactCounter,
+) -> Result<(), Failure>
+    ensures counts { OnOk result ((rest : List ℕ) × Consumes (R.remaining input.old) (R.remaining input.new) rest
+        × ((read : List ℕ) → HasCountedRead read partial.old.items contacts.old
+        → HasCounted (lines_of (read ++ rest)) contacts.new)) }
+    ensures end { OnOk result (IsAtEnd (R.remaining input.new)) }
+    ensures only { IfErr result (λ e. IsOfInput e ⊎ (e ≡ Failure.Memory)) }
+{
     let mut part = [0; PART];
     for _ in 0..u64::MAX {
-        let count = match read_part(input, &mut part) {
-            Ok(count) => count,
-            Err(cause) => return Err(Failure::Input { cause }),
-        };
+        let count = read_part(input, &mut part)?;
         if count == 0 {
             contacts.add_lines(partial.as_slice())?;
-            return Ok(contacts.into_contacts()?);
+            return Ok(());
         }
-        add_part(&mut contacts, &mut partial, &part[..count])?;
+        add_part(contacts, partial, &part[..count])?;
     }
-    // Not reached: no input has so many reads.
-    Err(Failure::Input {
-        cause: ErrorKind::Other,
-    })
+    Err(endless())
 }
 
 // Counts the contacts on the lines that end in a part. `partial` is the start of a line that hasn't ended yet.

@@ -3,31 +3,36 @@ ghost use Rattle.std.specs.Prelude.{◌≡◌, ◌++◌, IfOk, List, OnErr, OnOk
 ghost use Rattle.std.specs.Slice.Iter.{iter_rest};
 ghost use Rattle.mailmap_contacts.specs.Counts.{AreContactsOf};
 ghost use Rattle.mailmap_entries.specs.Folding.{Text};
+ghost use Rattle.mailmap_findings.specs.Needs.{AreUnneeded};
 ghost use Rattle.mailmap_findings.specs.Positions.{whole_lines};
-ghost use Rattle.mailmap_report.specs.Json.{notice_of};
+ghost use Rattle.mailmap_report.specs.Json.{named_of, notice_of};
 ghost use Rattle.mailmap_report.specs.Report.{contact_notice as the_contact_notice, finding_notice as the_finding_notice};
 ghost use Rattle.mailmap_report.specs.Report.{remark_notice as the_remark_notice};
+ghost use Rattle.mailmap_suggestions.specs.ContactFindings.{AreContactFindings};
 ghost use Rattle.mailmap_suggestions.specs.FindingViews.{finding_view};
-ghost use Rattle.gix_mailmap_c.specs.Notices.{no_words, other_file, other_line, placed, with_notice, with_notices, words_of};
+ghost use Rattle.gix_mailmap_c.specs.Notices.{mention, no_words, other_file, other_line, placed};
+ghost use Rattle.gix_mailmap_c.specs.Notices.{with_both, with_notice, with_notices, words_of};
 ghost use Rattle.gix_mailmap_c.specs.Notices.{ArePutWords, AreWordsBeside, AreWordsOf, NoWords, PutsWords};
 ghost use Rattle.gix_mailmap_c.specs.Several.{names_in, texts_in};
 
 use crate::parsing::Place;
-use crate::several::{Lengths, counted_in, names_of, texts_of};
+use crate::several::{Lengths, counted_in, names_of, texts_of, unneeded_by};
 use crate::status::{OK, OUT_OF_MEMORY, TOO_SHORT};
-use mailmap_contacts::answers::add_to_needs;
 use mailmap_contacts::counter::Contacts;
-use mailmap_findings::needs::Needs;
 use mailmap_findings::remarks::Remarks;
 use mailmap_findings::verify::{Findings, Mailmaps, Verification};
-use mailmap_report::notice::{Notice, contact_notice, finding_notice, remark_notice};
+use mailmap_redundancy::Position;
+use mailmap_report::notice::{
+    NO_NAME, Named, Notice, contact_notice, finding_notice, remark_notice,
+};
 use mailmap_suggestions::findings::{ContactFinding, contact_findings};
 use std::alloc::{AllocError, Global};
 
 /// A finding in words: the number of its line, from 1, and the places of its texts: the name of its file, its level, its
 /// kind, and what is said.
 ///
-/// `other_line` and `other_file` are the other line that the message refers to; without one they are 0 and empty.
+/// `other_line` and `other_file` are the other line that the message refers to; without one they are 0 and empty. `named`
+/// is what the message names, and `beside` what it names second.
 #[repr(C)]
 #[derive(Clone, Copy)]
 pub struct Noticed {
@@ -38,6 +43,17 @@ pub struct Noticed {
     pub kind: Place,
     pub message: Place,
     pub other_file: Place,
+    pub named: Mention,
+    pub beside: Mention,
+}
+
+/// The places of a name and an email, and how often they come. What isn't mentioned is empty, and the number 0.
+#[repr(C)]
+#[derive(Clone, Copy)]
+pub struct Mention {
+    pub name: Place,
+    pub email: Place,
+    pub count: usize,
 }
 
 // Findings in words, and the buffer of their texts.
@@ -118,10 +134,17 @@ fn words_alone(
 {
     let names = names_of(alloc, lengths, names)?;
     let buffers = texts_of(alloc, lengths, texts)?;
-    let mailmaps = Mailmaps::read(alloc, buffers.as_slice())?;
+    words_in(alloc, names.as_slice(), buffers.as_slice())
+}
+
+fn words_in(alloc: Global, names: &[Vec<u8>], buffers: &[&[u8]]) -> Result<Words, AllocError>
+    ensures { IfOk result (λ w. AreWordsOf (map (λ name. name.items) names.now) (map (λ b. b.now) buffers.now)
+        (words_of w)) }
+{
+    let mailmaps = Mailmaps::read(alloc, buffers)?;
     let verification = Verification::new(alloc, &mailmaps)?;
     let mut words = Words::new(alloc);
-    push_findings(alloc, &mut words, names.as_slice(), verification.findings())?;
+    push_findings(alloc, &mut words, names, verification.findings())?;
     Ok(words)
 }
 
@@ -155,14 +178,35 @@ fn words_counted(
 {
     let findings = contact_findings(alloc, buffers, counted)?;
     let mailmaps = Mailmaps::read(alloc, buffers)?;
-    let mut needs = Needs::new(alloc, &mailmaps)?;
-    add_to_needs(counted, &mut needs);
-    let unneeded = needs.unneeded(alloc)?;
-    let verification = Verification::new(alloc, &mailmaps)?;
-    let remarks = Remarks::new(verification.findings(), unneeded.as_slice());
+    let unneeded = unneeded_by(alloc, &mailmaps, counted)?;
+    words_with(
+        alloc,
+        names,
+        file,
+        &mailmaps,
+        unneeded.as_slice(),
+        findings.as_slice(),
+    )
+}
+
+fn words_with(
+    alloc: Global,
+    names: &[Vec<u8>],
+    file: &[u8],
+    mailmaps: &Mailmaps<'_, '_>,
+    unneeded: &[Position],
+    findings: &[ContactFinding<'_>],
+) -> Result<Words, AllocError>
+    ensures { (contacts : Text) → AreUnneeded mailmaps.now contacts unneeded.now
+        → AreContactFindings mailmaps.now (whole_lines contacts) (map finding_view findings.now)
+        → IfOk result (λ w. AreWordsBeside (map (λ name. name.items) names.now) mailmaps.now file.now contacts
+        (words_of w)) }
+{
+    let verification = Verification::new(alloc, mailmaps)?;
+    let remarks = Remarks::new(verification.findings(), unneeded);
     let mut words = Words::new(alloc);
     push_remarks(alloc, &mut words, names, remarks)?;
-    push_contact_findings(alloc, &mut words, file, findings.as_slice())?;
+    push_contact_findings(alloc, &mut words, file, findings)?;
     Ok(words)
 }
 
@@ -224,6 +268,8 @@ fn push_notice(words: &mut Words, notice: &Notice<'_>) -> Result<(), AllocError>
     let kind = put_text(texts, notice.kind.name().as_bytes())?;
     let message = put_text(texts, notice.message.as_slice())?;
     let other_file = put_text(texts, other_file)?;
+    let named = put_mention(texts, notice.named)?;
+    let beside = put_mention(texts, notice.beside.unwrap_or(NO_NAME))?;
     words.listed.push(Noticed {
         line: notice.place.line,
         other_line,
@@ -232,6 +278,8 @@ fn push_notice(words: &mut Words, notice: &Notice<'_>) -> Result<(), AllocError>
         kind,
         message,
         other_file,
+        named,
+        beside,
     })?;
     Ok(())
 }
@@ -246,6 +294,19 @@ fn other_of<'a>(notice: &'a Notice<'_>) -> (&'a [u8], usize)
         Some(other) => (other.file, other.line),
         None => (none, 0),
     }
+}
+
+fn put_mention(texts: &mut Vec<u8>, named: Named<'_>) -> Result<Mention, AllocError>
+    ensures { IfOk result (λ m. (m ≡ mention texts.old.items (named_of named.entry))
+        × (texts.new.items ≡ with_both texts.old.items (named_of named.entry))) }
+{
+    let name = put_text(texts, named.name.unwrap_or(b""))?;
+    let email = put_text(texts, named.email.unwrap_or(b""))?;
+    Ok(Mention {
+        name,
+        email,
+        count: named.count.unwrap_or(0),
+    })
 }
 
 fn put_text(texts: &mut Vec<u8>, text: &[u8]) -> Result<Place, AllocError>

@@ -2,12 +2,15 @@
 ghost use Rattle.std.specs.Prelude.{◌≡◌, IfOk, List, Some, map};
 ghost use Rattle.mailmap_contacts.specs.Counts.{AreContactsOf};
 ghost use Rattle.mailmap_entries.specs.Folding.{Text};
+ghost use Rattle.mailmap_findings.specs.Needs.{AreUnneeded};
 ghost use Rattle.mailmap_findings.specs.Positions.{whole_lines};
+ghost use Rattle.mailmap_suggestions.specs.ContactFindings.{AreContactFindings};
+ghost use Rattle.mailmap_suggestions.specs.FindingViews.{finding_view};
 ghost use Rattle.mailmap_suggestions.specs.Printed.{IsSuggested};
 ghost use Rattle.mailmap_report.specs.Explained.{ExplainsAll, each_line, explained_line};
 ghost use Rattle.mailmap_report.specs.Settings.{choices_of};
 ghost use Rattle.gix_mailmap_c.specs.Buffers.{IsOutput};
-ghost use Rattle.gix_mailmap_c.specs.Several.{c_position, choices_in, names_in, texts_in};
+ghost use Rattle.gix_mailmap_c.specs.Several.{c_position, choices_in, format_in, names_in, texts_in};
 ghost use Rattle.gix_mailmap_c.specs.Several.{AreUnneededOf, IsReportBesideOf, IsReportOf};
 
 use crate::buffers::hand;
@@ -22,15 +25,17 @@ use mailmap_report::explanation::Explainer;
 use mailmap_report::pieces::{self, FindingPieces, PiecesBeside};
 use mailmap_report::settings::{Format, Settings};
 use mailmap_report::suggested::SuggestionPieces;
-use mailmap_suggestions::findings::contact_findings;
+use mailmap_suggestions::findings::{ContactFinding, contact_findings};
 use mailmap_suggestions::suggestions::suggest;
 use mailmap_suggestions::text::feed_after;
 use std::alloc::{AllocError, Global};
 
 pub(crate) type Made<T> = Result<Vec<T>, AllocError>;
 
-// The number of the format in which findings are objects of JSON.
+// The numbers of the formats in which findings are objects of JSON, and annotations of GitHub.
 const JSON: u32 = 1;
+
+const GITHUB: u32 = 2;
 
 /// The lengths of a mailmap's name and text.
 #[repr(C)]
@@ -48,8 +53,8 @@ pub struct Position {
     pub line: usize,
 }
 
-/// Writes each finding in several mailmaps, as [`FindingPieces`] has them: as objects of JSON if `format` is 1, and
-/// otherwise as lines.
+/// Writes each finding in several mailmaps, as [`FindingPieces`] has them: as objects of JSON if `format` is 1, as
+/// annotations of GitHub if it is 2, and otherwise as lines.
 ///
 /// `names` has the mailmaps' names, one after another, and `texts` their texts. If either has fewer bytes than
 /// `lengths` adds up to, the last ones are short or empty.
@@ -77,12 +82,19 @@ fn report(alloc: Global, format: u32, lengths: &[Lengths], names: &[u8], texts: 
 {
     let names = names_of(alloc, lengths, names)?;
     let buffers = texts_of(alloc, lengths, texts)?;
-    let mailmaps = Mailmaps::read(alloc, buffers.as_slice())?;
-    let verification = Verification::new(alloc, &mailmaps)?;
     let settings = settings_in(alloc, format);
+    report_in(alloc, &settings, names.as_slice(), buffers.as_slice())
+}
+
+fn report_in(alloc: Global, settings: &Settings, names: &[Vec<u8>], buffers: &[&[u8]]) -> Made<u8>
+    ensures { IfOk result (λ text. IsReportOf (choices_of settings.now) (map (λ name. name.items) names.now)
+        (map (λ b. b.now) buffers.now) text.items) }
+{
+    let mailmaps = Mailmaps::read(alloc, buffers)?;
+    let verification = Verification::new(alloc, &mailmaps)?;
     let pieces = FindingPieces {
-        settings: &settings,
-        names: names.as_slice(),
+        settings,
+        names,
         findings: verification.findings(),
     };
     pieces::text_of(alloc, pieces)
@@ -151,18 +163,48 @@ fn report_counted(
 {
     let findings = contact_findings(alloc, buffers, counted)?;
     let mailmaps = Mailmaps::read(alloc, buffers)?;
-    let mut needs = Needs::new(alloc, &mailmaps)?;
+    let unneeded = unneeded_by(alloc, &mailmaps, counted)?;
+    let (unneeded, findings) = (unneeded.as_slice(), findings.as_slice());
+    report_remarks(alloc, settings, names, file, &mailmaps, unneeded, findings)
+}
+
+// The lines that no contact that was counted needs.
+pub(crate) fn unneeded_by(
+    alloc: Global,
+    mailmaps: &Mailmaps<'_, '_>,
+    counted: &Contacts,
+) -> Made<mailmap_redundancy::Position>
+    ensures { (contacts : Text) → AreContactsOf (whole_lines contacts) counted.now
+        → IfOk result (λ found. AreUnneeded mailmaps.now contacts found.items) }
+{
+    let mut needs = Needs::new(alloc, mailmaps)?;
     add_to_needs(counted, &mut needs);
-    let unneeded = needs.unneeded(alloc)?;
-    let verification = Verification::new(alloc, &mailmaps)?;
-    let remarks = Remarks::new(verification.findings(), unneeded.as_slice());
-    let found = findings.as_slice().iter();
+    needs.unneeded(alloc)
+}
+
+fn report_remarks(
+    alloc: Global,
+    settings: &Settings,
+    names: &[Vec<u8>],
+    file: &[u8],
+    mailmaps: &Mailmaps<'_, '_>,
+    unneeded: &[mailmap_redundancy::Position],
+    findings: &[ContactFinding<'_>],
+) -> Made<u8>
+    ensures { (contacts : Text) → AreUnneeded mailmaps.now contacts unneeded.now
+        → AreContactFindings mailmaps.now (whole_lines contacts) (map finding_view findings.now)
+        → IfOk result (λ text. IsReportBesideOf (choices_of settings.now) (map (λ name. name.items) names.now)
+        mailmaps.now file.now contacts text.items) }
+{
+    let verification = Verification::new(alloc, mailmaps)?;
+    let remarks = Remarks::new(verification.findings(), unneeded);
+    let findings = findings.iter();
     let pieces = PiecesBeside {
         settings,
         names,
         file,
         remarks,
-        findings: found,
+        findings,
     };
     pieces::text_of(alloc, pieces)
 }
@@ -171,10 +213,18 @@ fn settings_in(alloc: Global, format: u32) -> Settings
     ensures { choices_of result ≡ choices_in format }
 {
     let mut settings = Settings::new(alloc);
-    if format == JSON {
-        settings.format = Some(Format::Json);
-    }
+    settings.format = format_in(format);
     settings
+}
+
+fn format_in(format: u32) -> Option<Format>
+    ensures { result ≡ format_in format }
+{
+    match format {
+        JSON => Some(Format::Json),
+        GITHUB => Some(Format::Github),
+        _ => None,
+    }
 }
 
 /// Explains each line of `contacts` using several mailmaps, as [`Explainer::explained_line`] does.

@@ -40,7 +40,17 @@ pub fn unneeded(
     ensures { IfOk result (λ found. AreUnneeded (map (λ b. b.now) buffers.now) contacts.now found.items) }
 {
     let mailmaps = Mailmaps::read(alloc, buffers)?;
-    let mut needs = Needs::new(alloc, &mailmaps)?;
+    unneeded_in(alloc, &mailmaps, contacts)
+}
+
+fn unneeded_in(
+    alloc: Global,
+    mailmaps: &Mailmaps<'_, '_>,
+    contacts: &[u8],
+) -> Result<Vec<Position>, AllocError>
+    ensures { IfOk result (λ found. AreUnneeded mailmaps.now contacts.now found.items) }
+{
+    let mut needs = Needs::new(alloc, mailmaps)?;
     needs.add_all(contacts);
     needs.unneeded(alloc)
 }

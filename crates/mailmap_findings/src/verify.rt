@@ -109,7 +109,16 @@ pub fn verify<'a>(alloc: Global, buffers: &[&'a [u8]]) -> Result<Vec<Finding<'a>
         return Ok(Vec::new(alloc));
     }
     let mailmaps = Mailmaps::read(alloc, buffers)?;
-    let verification = Verification::new(alloc, &mailmaps)?;
+    findings_in(alloc, &mailmaps)
+}
+
+fn findings_in<'a>(
+    alloc: Global,
+    mailmaps: &Mailmaps<'_, 'a>,
+) -> Result<Vec<Finding<'a>>, AllocError>
+    ensures { IfOk result (λ findings. AreFindings mailmaps.now (map finding_of findings.items)) }
+{
+    let verification = Verification::new(alloc, mailmaps)?;
     verification.findings().collect(alloc)
 }
 

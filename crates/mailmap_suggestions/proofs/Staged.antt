@@ -11,10 +11,10 @@ use Rattle.mailmap_entries.proofs.Parts.{all_weaker, filter-filter}
 use Rattle.mailmap_contacts.specs.Contacts.{Contact, Tally, answer_to}
 use Rattle.mailmap_contacts.proofs.Steps.{all_filtered}
 use Rattle.std.proofs.lemmas.Grind.{flat_map-append}
-use Rattle.mailmap_suggestions.specs.Links.{AreClassesBy, answers, login_marks, name_marks}
 use Rattle.mailmap_suggestions.specs.Forms.{Histories, distinct, is_shared, plus}
 use Rattle.mailmap_suggestions.specs.GroupEntries.{are_alike, are_cut, classes, contacts, email_class, email_entries, group_entries, groups, members, wanted_entries}
-use Rattle.mailmap_suggestions.specs.Suggestions.{AreGroupClasses, GroupClasses, Kind, Suggestion, after_emails, after_names, by_alike_names, by_email, by_name, by_shared_email, email_key, email_kind, email_suggestions, first_answer, have_one_name, is_of_several, login_kind, login_suggestions, name_kind, name_suggestions, still_suggested, suggestion, suggestions}
+use Rattle.mailmap_suggestions.specs.Suggestions.{AreGroupClasses, GroupClasses, Kind, Suggestion, after_emails, after_names, by_alike_names, by_email, by_name, by_shared_email, email_key, email_kind, email_suggestions, first_answer, have_one_name, is_of_several, login_suggestions, name_kind, name_suggestions, still_suggested, suggestion, suggestions}
+use Rattle.mailmap_suggestions.specs.Stages.{AreByLogin, AreByName, added}
 use Rattle.mailmap_suggestions.proofs.Distinct.{all_of, same_bytes, somes}
 use Rattle.mailmap_suggestions.proofs.Forms.{groups_accepted}
 
@@ -182,19 +182,6 @@ emails_still shared lines h (g ∷ gs) =
     let one : still_suggested lines (suggestion shared h h (email_kind shared h g) g) ≡ suggestion shared h h (email_kind shared h g) g ∷ [] =
     elim (is_shared shared email) as (λ b. still_suggested lines (suggestion shared h h (if b then by_shared_email email else by_email) g) ≡ suggestion shared h h (if b then by_shared_email email else by_email) g ∷ []) [ true ↦ refl | false ↦ refl ] in
     λ i. one i ++ emails_still shared lines h gs i
-
--- those by names, for these mailmaps
-abbrev pub AreByName : List Text → List Tally → Histories → List Suggestion → Type 0
-AreByName shared ts h found = (class : Contact → Text) × AreClassesBy (name_marks shared h ts) (answers h ts) class
-    × (found ≡ map (λ g. suggestion shared h h (name_kind h g) g) (groups class h ts))
-
--- those by logins, for mailmaps with all entries; the entries are made for `base`
-abbrev pub AreByLogin : List Text → List Tally → Histories → Histories → List Suggestion → Type 0
-AreByLogin shared ts base all found = (class : Contact → Text) × AreClassesBy (login_marks shared all ts) (answers all ts) class
-    × (found ≡ map (λ g. suggestion shared base all (login_kind shared all ts g) g) (groups class all ts))
-
-abbrev pub added : Histories → List Suggestion → Histories
-added h found = plus h (accepted (flat_map (λ s. s.entries) found))
 
 pub staged : (shared lines : List Text) (h more : Histories) (ts : List Tally) (emails names logins found : List Suggestion)
     → emails ≡ email_suggestions shared h ts → more ≡ added h emails → AreByName shared ts more names → AreByLogin shared ts more (added more names) logins

@@ -2,13 +2,13 @@
 use Rattle.std.proofs.Common.{◌≡◌, ◌∙◌, ◌+◌, ◌<◌, ◌≤◌, ◌++◌, ℕ, List, [], ◌∷◌, ap, get_or, if◌then◌else◌, length, map, sym, take}
 use Rattle.std.proofs.lemmas.List.{map-append, take_all}
 use Rattle.std.proofs.lemmas.Simd.{map-map}
-use Rattle.mailmap_contacts.specs.Contacts.{Contact, Tally}
+use Rattle.mailmap_contacts.specs.Contacts.{Tally}
 use Rattle.mailmap_contacts.proofs.Steps.{mapped_more}
 use Rattle.mailmap_entries.specs.Folding.{Text}
 use Rattle.mailmap_suggestions.specs.Counted.{counted_answers, counted_git_answers}
 use Rattle.mailmap_suggestions.specs.Forms.{Histories}
-use Rattle.mailmap_suggestions.specs.GroupEntries.{are_cut, groups, proper_answer}
-use Rattle.mailmap_suggestions.specs.Links.{AreClassesBy, answers, name_marks}
+use Rattle.mailmap_suggestions.specs.GroupEntries.{are_cut, proper_answer}
+use Rattle.mailmap_suggestions.specs.Links.{answers}
 use Rattle.mailmap_suggestions.specs.Suggestions.{Kind, Suggestion, entries_for, suggestion}
 
 -- one more
@@ -35,7 +35,3 @@ suggestion_made shared base h kind g s kind_is answers git_answers proper is_cut
       entries = es i;
       is_cut = is_cut i;
     }
-
--- these are the groups of answers with alike names
-abbrev pub AreGroupsByName : List Text → List Tally → List (List Tally) → Histories → Type 0
-AreGroupsByName shared ts found h = (class : Contact → Text) × AreClassesBy (name_marks shared h ts) (answers h ts) class × (found ≡ groups class h ts)

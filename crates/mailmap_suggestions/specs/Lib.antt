@@ -4,6 +4,7 @@ pub mod Classes
 pub mod ContactFindings
 pub mod Counted
 pub mod Private
+pub mod GitContacts
 pub mod Histories
 pub mod EntryLines
 pub mod FindingViews
@@ -18,6 +19,7 @@ pub mod Shared
 pub mod SharedViews
 pub mod Shortened
 pub mod Suggestions
+pub mod Stages
 pub mod SuggestedText
 pub mod GroupEntries
 pub mod Written

@@ -5,7 +5,7 @@ use Rattle.mailmap_entries.specs.Folding.{Text}
 use Rattle.mailmap_snapshot.specs.Contacts.{contact_line}
 
 -- a character begins so many bytes before the end of the first 256, and goes beyond them
-abbrev pub crosses : ℕ → Text → Bool
+unfoldable pub crosses : ℕ → Text → Bool
 crosses back text =
     is_some (decoded (drop (256 - back) text)).char && nat_lt back (decoded (drop (256 - back) text)).size
 

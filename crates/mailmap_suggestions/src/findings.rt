@@ -3,7 +3,7 @@ ghost use Rattle.std.specs.Prelude.{◌≡◌, ◌++◌, IfOk, OnOk, List, Some,
 ghost use Rattle.std.specs.List.{flat_map};
 ghost use Rattle.std.specs.List.Sorted.{IsPermutation, IsSortedByKey};
 ghost use Rattle.mailmap_contacts.specs.Answers.{tally_of};
-ghost use Rattle.mailmap_contacts.specs.Contacts.{answered, both_seen, seen_where};
+ghost use Rattle.mailmap_contacts.specs.Contacts.{answered, both_seen, contacts_from, seen_where, tallied};
 ghost use Rattle.mailmap_contacts.specs.Counts.{AreContactsOf, SameTallies};
 ghost use Rattle.mailmap_entries.specs.Folding.{Text};
 ghost use Rattle.mailmap_suggestions.specs.ContactFindings.{AreContactFindings, compared_with as spec_compared_with};
@@ -12,10 +12,12 @@ ghost use Rattle.mailmap_suggestions.specs.ContactFindings.{git_answers as spec_
 ghost use Rattle.mailmap_suggestions.specs.ContactFindings.{likeness_rank, no_contact, others_like, place_cmp};
 ghost use Rattle.mailmap_suggestions.specs.ContactFindings.{seen_among as spec_seen_among};
 ghost use Rattle.mailmap_suggestions.specs.ContactFindings.{seen_answer as spec_seen_answer, several_people};
+ghost use Rattle.mailmap_suggestions.specs.Histories.{histories_of};
 ghost use Rattle.mailmap_suggestions.specs.FindingViews.{finding_view};
 ghost use Rattle.mailmap_suggestions.specs.Views.{suggestion_of};
 
 use crate::answers::Answers;
+use crate::git_contacts::answers_otherwise;
 use crate::histories::Histories;
 use crate::kinds::Kind;
 use crate::suggestions::{Suggestion, suggest};
@@ -49,7 +51,7 @@ pub enum ContactFinding<'a> {
     SharedEmail(&'a [u8], Occurrences),
     /// The first answer is like the second one, which is the proper one of those that are alike.
     IsLike(Likeness, Tally<'a>, Tally<'a>),
-    /// git answers this to the contact on its first line, and this library something else.
+    /// git answers this to the contact on its first line, as git reads it, and this library something else.
     GitAnswers(Tally<'a>),
 }
 
@@ -76,8 +78,8 @@ impl<'a> Model for Seen<'a> {
 
 /// The findings about contacts that were counted, in the order of the lines: lines that are neither blank nor contacts,
 /// answers that are not the proper one of a group for which entries are suggested, emails of several people, and
-/// contacts that git answers otherwise. On one line they come in the order of [`ContactFinding`] and [`Likeness`], but
-/// emails of several people after those with one email.
+/// contacts, as git reads them, that it answers otherwise. On one line they come in the order of [`ContactFinding`] and
+/// [`Likeness`], but emails of several people after those with one email.
 ///
 /// Answers count as often as they come without any suggestion. Of answers with one name that is so for the proper one,
 /// too: it is the most frequent one. Groups that are remembered have no findings.
@@ -90,11 +92,24 @@ pub fn contact_findings<'a>(
         AreContactFindings (map (λ b. b.now) buffers.now) lines (map finding_view found.items)) }
 {
     let suggestions = suggest(alloc, buffers, contacts)?;
-    let histories = Histories::read(alloc, buffers)?;
-    let answers = Answers::new(alloc, &histories)?;
-    let mut findings = findings_about(alloc, &answers, &suggestions, contacts)?;
+    let mut findings = findings_with(alloc, buffers, &suggestions, contacts)?;
     sort_by_places(&mut findings);
     Ok(findings)
+}
+
+// In no order, like those of `findings_about`.
+fn findings_with<'a>(
+    alloc: Global,
+    buffers: &[&'a [u8]],
+    suggestions: &[Suggestion<'a>],
+    contacts: &'a Contacts,
+) -> Result<Vec<ContactFinding<'a>>, AllocError>
+    ensures { (lines : List Text) → AreContactsOf lines contacts.now → IfOk result (λ found. map finding_view found.items
+        ≡ spec_findings_about (map suggestion_of suggestions.now) (histories_of (map (λ b. b.now) buffers.now)) lines) }
+{
+    let histories = Histories::read(alloc, buffers)?;
+    let answers = Answers::new(alloc, &histories)?;
+    findings_about(alloc, &answers, suggestions, contacts)
 }
 
 // In no order.
@@ -109,10 +124,26 @@ fn findings_about<'a>(
 {
     let tallies = contacts.in_order(alloc)?;
     let seen = seen_answers(alloc, answers, &tallies)?;
+    findings_among(alloc, answers, suggestions, contacts, &seen)
+}
+
+// With how often the answers to the contacts come.
+fn findings_among<'a>(
+    alloc: Global,
+    answers: &Answers<'_, 'a>,
+    suggestions: &[Suggestion<'a>],
+    contacts: &'a Contacts,
+    seen: &Seen<'a>,
+) -> Result<Vec<ContactFinding<'a>>, AllocError>
+    ensures { (lines : List Text) → AreContactsOf lines contacts.now
+        → SameTallies seen.now (map (answered answers.now.ours) (tallied (contacts_from 1 lines)))
+        → IfOk result (λ found. map finding_view found.items
+        ≡ spec_findings_about (map suggestion_of suggestions.now) answers.now lines) }
+{
     let mut findings = Vec::new(alloc);
     push_no_contacts(&mut findings, contacts.lines_without_contact())?;
-    push_groups(alloc, &mut findings, &seen, suggestions)?;
-    push_git_answers(&mut findings, &answers.others_of_git(alloc, &tallies)?)?;
+    push_groups(alloc, &mut findings, seen, suggestions)?;
+    push_git_answers(&mut findings, &answers_otherwise(alloc, answers, contacts)?)?;
     Ok(findings)
 }
 

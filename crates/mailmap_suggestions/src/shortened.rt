@@ -44,6 +44,7 @@ fn front_len(text: &[u8]) -> usize
 }
 
 // Whether a character begins `back` bytes before the limit and goes beyond it.
+#[tactic(auto, unfolding(crate::specs::Shortened::crosses))]
 fn crosses(back: usize, text: &[u8]) -> bool
     requires { (back ≤ 256) × (256 ≤ length text.now) }
     ensures { result ≡ crosses back text.now }

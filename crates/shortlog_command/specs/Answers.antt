@@ -1,12 +1,15 @@
 -- What is printed for an answer.
-use Rattle.std.specs.Prelude.{Bool, true, List, [], None, Some}
+use Rattle.std.specs.Prelude.{Bool, true, List, [], None, Some, map}
+use Rattle.std.specs.List.Sorted.{IsPermutation, IsStrictlySortedBy}
+use Rattle.std.specs.Map.{keys_of}
 use Rattle.mailmap_snapshot.specs.Entries.{Mapping}
 use Rattle.mailmap_snapshot.specs.Folding.{Text}
 use Rattle.std.specs.Ordering.{on}
 use Rattle.std.specs.declared.cmp.Ordering.{Ordering}
 use Rattle.contact_counter.specs.Contacts.{Contact, contact_cmp, Tally, answer_to}
+use Rattle.contact_counter.specs.Counts.{SameTallies}
 use Rattle.contact_counter.specs.declared.occurrences.Occurrences.{Occurrences}
-use Rattle.shortlog_command.specs.Shortlog.{Counted, answer_text}
+use Rattle.shortlog_command.specs.Shortlog.{Counted, answer_text, order}
 use Rattle.shortlog_command.specs.declared.answer.Answer.{Answer}
 
 abbrev pub printed : Answer → Text
@@ -32,3 +35,11 @@ answer_tally e = record { contact = alone (printed e.0); seen = e.1 }
 
 abbrev pub answer_counted : Answer × Occurrences → Counted
 answer_counted e = record { text = printed e.0; count = e.1.count }
+
+-- answers that have these tallies, in the order in which they are printed
+pub record AreListed (by_count : Bool) (tallies : List Tally) (listed : List (Answer × Occurrences)) : Type 0 where
+  pub answers : List (Answer × Occurrences)
+  pub tallied : SameTallies (map answer_tally answers) tallies
+  pub once : IsStrictlySortedBy answer_cmp (keys_of answers)
+  pub moved : IsPermutation answers listed
+  pub in_order : IsStrictlySortedBy (order by_count) (map answer_counted listed)

@@ -6,19 +6,20 @@ ghost use Rattle.std.specs.Map.{keys_of};
 ghost use Rattle.std.specs.Ordering.{is_lt};
 ghost use Rattle.bstr.specs.Text.{lines_of};
 ghost use Rattle.mailmap_snapshot.specs.Folding.{Text};
-ghost use Rattle.command_line.specs.Leaving.{LeavesText};
-ghost use Rattle.command_line.specs.Printing.{AppendsFront, IsUnderway, WritesText};
-ghost use Rattle.contact_counter.specs.Contacts.{answer_to};
+ghost use Rattle.command_line.specs.Printing.{AppendsFront, IsUnderway, LeavesText, WritesText};
+ghost use Rattle.contact_counter.specs.Contacts.{answer_to, read_by, trimmed};
 ghost use Rattle.contact_counter.specs.Counts.{AreContactsOf, SameTallies};
-ghost use Rattle.shortlog_command.specs.Answers.{answer_cmp, answer_counted, answer_tally, printed, text_tally};
+ghost use Rattle.shortlog_command.specs.Answers.{AreListed, answer_cmp, answer_counted, answer_tally, printed, text_tally};
 ghost use Rattle.shortlog_command.specs.Shortlog.{IsShortlog, answer_text, answers_counted, count_order, counted_text, order};
 
 use crate::answer::Answer;
+use crate::task::Options;
 use command_line::failure::Failure;
 use command_line::printer::Printer;
 use contact_counter::counter::Contacts;
 use contact_counter::occurrences::{Occurrences, add_to};
 use itoa::Buffer;
+use mailmap_grammar::contacts::trim;
 use mailmap_snapshot::Snapshot;
 use mailmap_snapshot::check::{resolved, snapshot_of};
 use std::alloc::{AllocError, Global};
@@ -47,20 +48,40 @@ pub fn print_shortlog<W: Write>(
     alloc: Global,
     buffers: &[&[u8]],
     contacts: &Contacts,
-    by_count: bool,
-    with_email: bool,
+    options: Options,
     output: &mut W,
 ) -> Result<(), Failure>
     ensures leaves { (text : Text) → AreContactsOf (lines_of text) contacts.now → LeavesText
-        (IsShortlog by_count (answers_counted with_email (map (λ b. b.now) buffers.now) text))
+        (IsShortlog options.by_count (answers_counted options.with_email (map (λ b. b.now) buffers.now) text))
         W.contents output.old output.new result }
     ensures only { IfErr result (λ e. (e ≡ Failure.Memory) ⊎ (e ≡ Failure.Output)) }
 {
     let snapshot = snapshot_of(alloc, buffers)?;
-    let answers = answers_of(alloc, &snapshot, contacts, with_email)?;
-    let listed = listed(alloc, answers, by_count)?;
+    let listed = listed_answers(
+        alloc,
+        &snapshot,
+        contacts,
+        options.by_count,
+        options.with_email,
+    )?;
     let mut printer = Printer::new(alloc)?;
     print_lines(&mut printer, listed.as_slice(), output)
+}
+
+// The answers to contacts with their counts, in the order in which they are printed.
+fn listed_answers<'a>(
+    alloc: Global,
+    snapshot: &'a Snapshot,
+    contacts: &'a Contacts,
+    by_count: bool,
+    with_email: bool,
+) -> Result<Vec<Counted<'a>>, AllocError>
+    ensures { IfOk result (λ listed. AreListed by_count (map (text_tally with_email snapshot.now)
+        (map (read_by trimmed) contacts.now.tallies)) listed.items) }
+{
+    let answers = answers_of(alloc, snapshot, contacts, with_email)?;
+    let listed = listed(alloc, answers, by_count)?;
+    Ok(listed)
 }
 
 /// Maps contacts to answers and adds up the counts of equal answers.
@@ -73,11 +94,12 @@ pub fn answers_of<'a>(
     with_email: bool,
 ) -> Result<BTreeMap<Answer<'a>, Occurrences>, AllocError>
     ensures { IfOk result (λ answers. SameTallies (map answer_tally answers.entries)
-        (map (text_tally with_email snapshot.now) contacts.now.tallies)) }
+        (map (text_tally with_email snapshot.now) (map (read_by trimmed) contacts.now.tallies))) }
 {
     let mut answers = BTreeMap::new(alloc);
     for ((name, email), seen) in contacts.tallies().iter() {
-        let answer = answer_to(snapshot, name.as_slice(), email.as_slice(), with_email);
+        let (name, email) = (trim(name.as_slice()), trim(email.as_slice()));
+        let answer = answer_to(snapshot, name, email, with_email);
         add_to(&mut answers, answer, *seen)?;
     }
     Ok(answers)

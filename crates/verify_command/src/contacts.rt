@@ -4,6 +4,10 @@ ghost use Rattle.std.specs.Io.KnownBytes.{IsAtEnd};
 ghost use Rattle.bstr.specs.Text.{lines_of};
 ghost use Rattle.mailmap_entries.specs.Folding.{Text};
 ghost use Rattle.mailmap_contacts.specs.Counts.{AreContactsOf};
+ghost use Rattle.mailmap_findings.specs.Needs.{AreUnneeded};
+ghost use Rattle.mailmap_findings.specs.Positions.{whole_lines};
+ghost use Rattle.mailmap_suggestions.specs.ContactFindings.{AreContactFindings};
+ghost use Rattle.mailmap_suggestions.specs.FindingViews.{finding_view};
 ghost use Rattle.verify_command.specs.Task.{AreContacts, AreLog, AreSuggested, EndsPrinting, FailsForContacts, FromContacts};
 ghost use Rattle.verify_command.specs.Task.{IsReportBeside, Leaves, is_dash, wanted_of};
 
@@ -19,12 +23,13 @@ use mailmap_contacts::counter::Contacts;
 use mailmap_findings::needs::Needs;
 use mailmap_findings::remarks::Remarks;
 use mailmap_findings::verify::{Mailmaps, Verification};
+use mailmap_redundancy::Position;
 use mailmap_report::pieces::PiecesBeside;
 use mailmap_report::suggested::SuggestionPieces;
-use mailmap_suggestions::findings::contact_findings;
+use mailmap_suggestions::findings::{ContactFinding, contact_findings};
 use mailmap_suggestions::suggestions::suggest;
 use mailmap_suggestions::text::feed_after;
-use std::alloc::Global;
+use std::alloc::{AllocError, Global};
 use std::io::{Read, Write};
 
 /// Reads the contacts, and prints the findings in the mailmaps in buffers and in them, and the lines that none needs.
@@ -118,21 +123,58 @@ fn print_report<W: Write>(
     // First, so that what it looks up is freed before the rest is built.
     let findings = contact_findings(alloc, buffers, counted)?;
     let mailmaps = Mailmaps::read(alloc, buffers)?;
-    let mut needs = Needs::new(alloc, &mailmaps)?;
+    let unneeded = unneeded_by(alloc, &mailmaps, counted)?;
+    print_remarks(
+        alloc,
+        request,
+        &mailmaps,
+        unneeded.as_slice(),
+        findings.as_slice(),
+        output,
+    )
+}
+
+// The lines that no contact that was counted needs.
+fn unneeded_by(
+    alloc: Global,
+    mailmaps: &Mailmaps<'_, '_>,
+    counted: &Contacts,
+) -> Result<Vec<Position>, AllocError>
+    ensures { (taken : Text) → AreContactsOf (whole_lines taken) counted.now
+        → IfOk result (λ found. AreUnneeded mailmaps.now taken found.items) }
+{
+    let mut needs = Needs::new(alloc, mailmaps)?;
     add_to_needs(counted, &mut needs);
-    let unneeded = needs.unneeded(alloc)?;
-    let verification = Verification::new(alloc, &mailmaps)?;
+    needs.unneeded(alloc)
+}
+
+// Prints the findings in mailmaps, the lines that are unneeded, and the findings in contacts.
+fn print_remarks<W: Write>(
+    alloc: Global,
+    request: &Request,
+    mailmaps: &Mailmaps<'_, '_>,
+    unneeded: &[Position],
+    findings: &[ContactFinding<'_>],
+    output: &mut W,
+) -> Result<Outcome, TaskFailure>
+    ensures leaves { (taken : Text) → AreUnneeded mailmaps.now taken unneeded.now
+        → AreContactFindings mailmaps.now (whole_lines taken) (map finding_view findings.now)
+        → Leaves true (IsReportBeside (wanted_of request.now) mailmaps.now taken)
+        W.contents output.old output.new result }
+    ensures only { IfErr result EndsPrinting }
+{
+    let verification = Verification::new(alloc, mailmaps)?;
     let settings = &request.settings;
     let names = settings.mailmap_names(request.paths.as_slice());
     let file = request.contacts_name();
-    let remarks = Remarks::new(verification.findings(), unneeded.as_slice());
-    let found = findings.as_slice().iter();
+    let remarks = Remarks::new(verification.findings(), unneeded);
+    let findings = findings.iter();
     let pieces = PiecesBeside {
         settings,
         names,
         file,
         remarks,
-        findings: found,
+        findings,
     };
     print_pieces(alloc, pieces, output)
 }

@@ -24,7 +24,20 @@ pub(crate) fn verify<W: Write>(
     ensures only { IfErr result EndsPrinting }
 {
     let mailmaps = Mailmaps::read(alloc, buffers)?;
-    let verification = Verification::new(alloc, &mailmaps)?;
+    print_findings(alloc, request, &mailmaps, output)
+}
+
+fn print_findings<W: Write>(
+    alloc: Global,
+    request: &Request,
+    mailmaps: &Mailmaps<'_, '_>,
+    output: &mut W,
+) -> Result<Outcome, TaskFailure>
+    ensures leaves { Leaves true (IsReport (wanted_of request.now) mailmaps.now)
+        W.contents output.old output.new result }
+    ensures only { IfErr result EndsPrinting }
+{
+    let verification = Verification::new(alloc, mailmaps)?;
     let settings = &request.settings;
     let names = settings.mailmap_names(request.paths.as_slice());
     let pieces = FindingPieces {

@@ -1,10 +1,8 @@
-use Rattle.std.proofs.Common.{rules, ◌≡◌, ◌∙◌, List, ℕ, Bor, ap, filter, map, not, subst, sym}
-use Rattle.std.specs.Slice.Iter.{iter_rest}
+use Rattle.std.proofs.Common.{List, ℕ, Bor, map, subst, sym}
+use Rattle.std.specs.Prelude.{IfOk}
 use Rattle.command_line.specs.Files.{texts}
-use Rattle.mailmap_entries.proofs.Results.{if_ok_map}
-use Rattle.mailmap_findings.specs.Needs.{any_needs}
+use Rattle.mailmap_findings.specs.Needs.{AreUnneeded}
 use Rattle.mailmap_findings.specs.Positions.{whole_lines}
-use Rattle.mailmap_findings.specs.Remarks.{AreRemarks}
 use Rattle.mailmap_report.specs.Settings.{choices_of}
 use Rattle.mailmap_suggestions.specs.ContactFindings.{AreContactFindings}
 use Rattle.mailmap_suggestions.specs.FindingViews.{finding_view}
@@ -14,24 +12,9 @@ use Rattle.gix_mailmap_c.proofs.several.report_counted.Goals as goal
 pub returns : goal.returns
 returns c = λ contacts are.
     let lines = whole_lines contacts in
-    let now : Bor (List ℕ) → List ℕ = λ b. b.now in
-    let mailmaps = map now c.args.buffers.now in
-    let begun = c.in_ok-needs.ensures in
-    let remarks : AreRemarks mailmaps contacts c.new-remarks.result = subst (λ ms. AreRemarks ms contacts c.new-remarks.result) c.in_ok-mailmaps.ensures
-    (c.new-remarks.ensures c.in_ok-mailmaps.mailmaps contacts (search rules) (record {
-      kept = c.in_ok-needs.needs.kept;
-      effective = begun.effective;
-      whole = c.as_slice.ensures.value ∙ c.in_ok-unneeded.ensures ∙ c.add_to_needs.ensures.left lines are ∙ ap (filter (λ p. not (any_needs c.in_ok-needs.needs.kept lines p))) begun.left;
-    })) in
-    let found = map finding_view (iter_rest c.iter-found.result) in
-    let shown : map finding_view c.in_ok-findings.findings.items ≡ found = sym (ap (map finding_view) (c.iter-found.ensures.rest ∙ c.as_slice-2.ensures.value)) in
-    let about : AreContactFindings mailmaps lines found = subst (AreContactFindings mailmaps lines) shown (c.in_ok-findings.ensures lines are) in
-    if_ok_map c.text_of.result _
-    (λ text. IsReportBesideOf (choices_of c.args.settings.now) (texts c.args.names.now) mailmaps c.args.file.now contacts text.items)
-    (λ text is. record {
-      remarks = c.new-remarks.result;
-      are_remarks = remarks;
-      found = found;
-      about = about;
-      lines = is;
-    }) c.text_of.ensures
+    let mailmaps = c.in_ok-mailmaps.mailmaps in
+    let unneeded = subst (AreUnneeded mailmaps contacts) (sym c.as_slice-unneeded.ensures.value) (c.in_ok-unneeded.ensures contacts are) in
+    let about = subst (λ ms. AreContactFindings ms lines (map finding_view c.as_slice-findings.result.now)) (sym c.in_ok-mailmaps.ensures)
+    (subst (λ fs. AreContactFindings (map (λ (b : Bor (List ℕ)). b.now) c.args.buffers.now) lines (map finding_view fs)) (sym c.as_slice-findings.ensures.value) (c.in_ok-findings.ensures lines are)) in
+    subst (λ ms. IfOk c.report_remarks.result (λ text. IsReportBesideOf (choices_of c.args.settings.now) (texts c.args.names.now) ms c.args.file.now contacts text.items)) c.in_ok-mailmaps.ensures
+    (c.report_remarks.ensures contacts unneeded about)

@@ -1,20 +1,12 @@
-use Rattle.std.proofs.Common.{◌≡◌, ◌∙◌, List, ap, map}
+use Rattle.std.proofs.Common.{◌≡◌, map, subst}
+use Rattle.std.specs.Prelude.{IfOk}
 use Rattle.mailmap_contacts.specs.Answers.{tally_of}
-use Rattle.mailmap_contacts.specs.Contacts.{Tally}
-use Rattle.mailmap_findings.proofs.Verified.{if_given}
-use Rattle.mailmap_suggestions.specs.Forms.{Histories}
-use Rattle.mailmap_suggestions.specs.GroupEntries.{groups}
-use Rattle.mailmap_suggestions.specs.Private.{tallies_in}
-use Rattle.mailmap_suggestions.specs.Suggestions.{Suggestion, email_key, email_kind, email_suggestions, suggestion}
+use Rattle.mailmap_suggestions.specs.Suggestions.{email_suggestions}
 use Rattle.mailmap_suggestions.specs.Views.{suggestion_of}
 use Rattle.mailmap_suggestions.proofs.suggestions.by_email.Goals as goal
 
 pub returns : goal.returns
 returns c =
-    let shared = c.args.shared.now in
-    let h = c.args.histories.now in
     let ts = map tally_of c.args.contacts.now in
-    let all : Histories → List (List Tally) → List Suggestion = λ h gs. map (λ g. suggestion shared h h (email_kind shared h g) g) gs in
-    let found = ap (map tallies_in) c.deref.ensures.value ∙ c.in_ok-groups.ensures in
-    let same = (λ i. all (c.in_ok-answers.ensures i) (found i)) ∙ ap (λ h2. all h (groups email_key h2 ts)) c.in_ok-answers.ensures in
-    if_given c.suggest_for_emails.result (λ found. map suggestion_of found.items) (λ (l : List Suggestion). l ≡ email_suggestions shared h ts) _ c.suggest_for_emails.ensures (λ l is. is ∙ same)
+    subst (λ h. IfOk c.suggest_by_email.result (λ found. map suggestion_of found.items ≡ email_suggestions c.args.shared.now h ts))
+    c.in_ok-answers.ensures c.suggest_by_email.ensures

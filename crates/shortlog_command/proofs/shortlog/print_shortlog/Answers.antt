@@ -12,12 +12,13 @@ use Rattle.shortlog_command.proofs.shortlog.print_shortlog.Goals.{After-print_li
 
 -- what is printed is the shortlog of what was listed
 made : (g : given.Over) (c : After-print_lines g) (text : Text) → AreContactsOf (lines_of text) c.args.contacts.now
-    → IsShortlog c.args.by_count (answers_counted c.args.with_email (map (λ b. b.now) c.args.buffers.now) text)
+    → IsShortlog c.args.options.by_count (answers_counted c.args.options.with_email (map (λ b. b.now) c.args.buffers.now) text)
     (flat_map counted_text (map answer_counted c.in_ok-listed.listed.items))
 made g c text are =
-    shortlog_made c.args.by_count c.args.with_email (map (λ b. b.now) c.args.buffers.now) c.in_ok-snapshot.snapshot
-    c.in_ok-snapshot.ensures text c.args.contacts.now c.in_ok-answers.answers.entries c.in_ok-listed.listed.items are
-    c.in_ok-answers.ensures c.in_ok-listed.ensures.once c.in_ok-listed.ensures.moved c.in_ok-listed.ensures.in_order
+    let listed = c.in_ok-listed.ensures in
+    shortlog_made c.args.options.by_count c.args.options.with_email (map (λ b. b.now) c.args.buffers.now) c.in_ok-snapshot.snapshot
+    c.in_ok-snapshot.ensures text c.args.contacts.now listed.answers c.in_ok-listed.listed.items are
+    listed.tallied listed.once listed.moved listed.in_order
 
 pub returns-clause-leaves : goal.returns-clause-leaves
 returns-clause-leaves g c = λ text are.

@@ -1,21 +1,8 @@
-use Rattle.std.proofs.Common.{rules, ◌≡◌, List, ℕ, Bor, Vec, Global, map, subst}
-use Rattle.mailmap_findings.specs.Findings.{AreFindings}
-use Rattle.mailmap_report.specs.Report.{report_pieces}
-use Rattle.mailmap_report.specs.Settings.{choices_of, mailmap_names}
-use Rattle.verify_command.specs.Task.{Says}
-use Rattle.verify_command.proofs.Leaving.{leaves_weaker}
+use Rattle.std.proofs.Common.{subst, true}
+use Rattle.verify_command.specs.Task.{IsReport, Leaves, wanted_of}
 use Rattle.verify_command.proofs.report.verify.Goals as goal
 
 pub returns-clause-leaves : goal.returns-clause-leaves
 returns-clause-leaves g c =
-    let items : Vec ℕ Global → List ℕ = λ file. file.items in
-    let now : Bor (List ℕ) → List ℕ = λ b. b.now in
-    let choices = choices_of c.args.request.now.settings in
-    let are : AreFindings (map now c.args.buffers.now) c.findings.result = search rules in
-    let names : map items c.mailmap_names-names.result.now
-    ≡ mailmap_names choices (map items c.args.request.now.paths.items) = search rules in
-    leaves_weaker (λ o t says. (
-      c.findings.result,
-      are,
-      subst (λ n. Says o t (report_pieces choices n c.findings.result)) names says,
-    )) c.print_pieces.ensures.leaves
+    subst (λ ms. Leaves true (IsReport (wanted_of c.args.request.now) ms) g.W.Write.contents c.args.output.now c.print_findings.new.output c.print_findings.result)
+    c.in_ok-mailmaps.ensures c.print_findings.ensures.leaves

@@ -1,0 +1,18 @@
+use Rattle.std.proofs.Common.{rules, ◌∙◌, Bor, Global, List, Vec, ℕ, ap, map}
+use Rattle.mailmap_findings.specs.Findings.{AreFindings}
+use Rattle.mailmap_report.specs.Report.{finding_notice}
+use Rattle.gix_mailmap_c.specs.Notices.{with_notices}
+use Rattle.gix_mailmap_c.proofs.notices.words_in.Goals as goal
+
+pub returns : goal.returns
+returns c =
+    let items : Vec ℕ Global → List ℕ = λ name. name.items in
+    let names = map items c.args.names.now in
+    let mailmaps = map (λ (b : Bor (List ℕ)). b.now) c.args.buffers.now in
+    let found = c.findings.result in
+    let whole : AreFindings mailmaps found = search rules in
+    record {
+      found = found;
+      whole = whole;
+      words = c.in_ok-push_findings.ensures ∙ ap (λ w. with_notices w (map (finding_notice names) found)) c.new-words.ensures;
+    }
