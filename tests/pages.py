@@ -111,9 +111,9 @@ def architecture(sources):
 
 
 def silent_modules():
-    """The modules whose first line doesn't say what they do; those of tests are named for their subjects."""
+    """The modules whose first line doesn't say what they do."""
     for file in TOP.glob("crates/*/src/**/*.rt"):
-        if "gix_mailmap_tests" not in file.parts and not file.read_text().startswith("//! "):
+        if not file.read_text().startswith("//! "):
             yield f"docs/ARCHITECTURE.md: {file.relative_to(TOP)} doesn't say what it does"
 
 

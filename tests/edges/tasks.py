@@ -6,7 +6,7 @@ from runs import wants
 from shortlog import skipped
 from ways import CHECK, SHORTLOG, VERIFY, VERSION, run, said
 
-FILES = {"one": b"1", "none": b"", "mapped": b"M <m@y> <a@x>\n", "cased": b"N <N@x>\n"}
+FILES = {"one": b"1", "none": b"", "mapped": b"M <m@y> <a@x>\n", "cased": b"N <N@x>\n", "renamed": b"N <n@x> <a@x>"}
 # contacts, and a line that is none
 CONTACTS = b"b <A@x>\r\np\x1b\nB <M@y>\n\nb <A@x>\nm <q@x> end"
 SPLIT = b"N <a@x>\n--\nb <A@x>\n"
@@ -22,12 +22,20 @@ TASKS = [
     (CHECK, "--compact", SPLIT, 0, b" b <a@x>\n"),
     (CHECK, "--compact none mapped", SPLIT, 0, b" M <m@y> <a@x>\n"),
     (CHECK, "--compact mapped three", SPLIT, 2, b"cannot read file 2"),
+    (CHECK, "", b"Joe R. Developer <joe@example.com> <bugs@example.com>\n--\nbob <BUGS@example.com>\n", 0,
+     b"Joe R. Developer <joe@example.com>\n"),
+    (CHECK, "renamed", b"b <A@x>", 0, b"N <n@x>\n"),
+    (CHECK, "--compact", b" # c <a@x>\nJane <j@x> <>\n<n@y> Bob <A@X>", 0,
+     b" Jane <j@x> <>\n # c <a@x>\n <n@y> Bob <a@x>\n"),
     (CHECK, "mapped --compact", SPLIT, 2, b"cannot read file 2"),
     (VERIFY, "three --version -h", b"", 0, b"mailmap_verify " + VERSION),
     (VERIFY, "-", b"plain", 1, b"<stdin>" + NO_EMAIL),
     (VERIFY, "", b"plain", 2, b".mailmap: No such file or directory"),
     (VERIFY, "-- -", b"N <a@x>\nN <a@x>\n", 1,
      b"<stdin>:1: warning: no effect: <stdin>:2 says the same [no-effect]\n"),
+    (VERIFY, "-", b"N <n@x> <a@x>\n<m@x> <n@x>\n", 1,
+     b"<stdin>:1: warning: N <n@x> is itself mapped, to N <m@x> by <stdin>:2 [itself-mapped]\n"),
+    (VERIFY, "--prune -", b"N < n@x >\n", 2, b"git reads <stdin>:1 otherwise"),
     (VERIFY, "mapped -S note", b"plain", 0, b""),
     (VERIFY, "one --severity=error none -- one", b"plain", 1, (b"one" + NO_EMAIL) * 2),
     (VERIFY, "one -e no-email", b"plain", 0, b""),
@@ -37,6 +45,13 @@ TASKS = [
     (VERIFY, "--prune", b"", 2, b".mailmap: No such file or directory"),
     (VERIFY, "one --prune", b"plain", 0, b"1"),
     (VERIFY, "--prune three", b"", 2, MISSING),
+    (VERIFY, "none --in-place one --prune", b"plain", 0, b""),
+    (VERIFY, "--prune --in-place one three", b"", 2, MISSING),
+    (VERIFY, "--prune --in-place -", b"", 2, b"-: No such file or directory"),
+    (VERIFY, "-f github one", b"", 1, b"::error file=one,line=1,title=no-email::no email in brackets\n"),
+    (VERIFY, "-f json --format=github --contacts - none", CONTACTS, 1,
+     b"::error file=<stdin>,line=2,title=no-contact::no contact\n"
+     b"::notice file=<stdin>,line=3,title=same-name::B <M@y> (1) has the name of b <A@x> (2)\n"),
     (VERIFY, "--explain one mapped", CONTACTS, 0,
      b"b <A@x> is M <m@y> by mapped:1\np\\x1b is no contact\nB <M@y> is not mapped\n"
      b"b <A@x> is M <m@y> by mapped:1\nm <q@x> is not mapped\n"),

@@ -2,7 +2,6 @@
 
     leaks.py [CALLS]
 """
-import ctypes
 import gc
 import io
 import itertools
@@ -10,6 +9,7 @@ import sys
 
 import gix_mailmap
 from gix_mailmap import Entry, Error, Mailmap, _native
+from heap import allocated
 
 # Before calls are counted: more than the lines that are cached.
 WARM = 7_000
@@ -17,25 +17,6 @@ CALLS = int(sys.argv[1]) if sys.argv[1:] else 100_000
 MAP = "Jane Doe <jane@x> <jd@y>\nJörg <joe@x>\n"
 BYTES = MAP.encode()
 LONG = "n" * 1000
-
-
-class Memory(ctypes.Structure):
-    """struct mallinfo2"""
-
-    _fields_ = [(name, ctypes.c_size_t) for name in (
-        "arena", "ordblks", "smblks", "hblks", "hblkhd", "usmblks", "fsmblks", "uordblks", "fordblks", "keepcost",
-    )]
-
-
-mallinfo = getattr(ctypes.CDLL(None), "mallinfo2", None)
-if mallinfo is not None:
-    mallinfo.restype = Memory
-
-
-def allocated():
-    """The bytes that malloc has given out."""
-    memory = mallinfo() if mallinfo is not None else Memory()
-    return memory.uordblks + memory.hblkhd
 
 
 def raising(call, *arguments):
@@ -102,6 +83,7 @@ def calls():
         "report": lambda: gix_mailmap.report(pairs),
         "report, of no pairs": raising(gix_mailmap.report, ".."),
         "report, as JSON": lambda: gix_mailmap.report(pairs, format="json"),
+        "report, for GitHub": lambda: gix_mailmap.report(pairs, ("h", "a <a@x>"), "github"),
         "findings": lambda: gix_mailmap.findings(pairs),
         "parse": lambda: gix_mailmap.parse(MAP),
         "parse, of bytes": lambda: gix_mailmap.parse(b"plain\nN <a@x>"),

@@ -11,6 +11,7 @@ env PYTHONMALLOC=malloc LD_PRELOAD="$work/refusing.so" PYTHONPATH="$top/python:$
     "$python" -W error "$here/refused.py"
 
 PYTHONPATH="$top/python" "$python" "$here/leaks.py"
+PYTHONPATH="$top/python" "$python" "$here/replaced.py"
 
 sanitizers="$("${CC:-cc}" -print-file-name=libasan.so):$("${CC:-cc}" -print-file-name=libubsan.so)"
 if [[ "$sanitizers" == /*:/* ]]; then

@@ -1,104 +1,155 @@
-use gix_mailmap::check::{ContactStream, check, compact, split};
+//! Contacts: how they are answered, parted from mailmaps, and how mailmaps are written as one.
+use crate::names;
+use crate::script::{Run, assert_script, cut, push_between};
+use bstr::ByteSlice;
+use mailmap_snapshot::check::{ContactStream, check, compact, split};
 use std::alloc::{AllocError, Global};
 
-const TEAM: &[u8] = b"
-Joe R. Developer <joe@example.com> <bugs@example.com>
-Jane Doe <jane@example.com> Jane <bugs@example.com>
-";
-
-/// Mailmaps, lines of contacts, and the answers.
-type Checked = (&'static [&'static [u8]], &'static [u8], &'static [u8]);
-
-static CHECKED: [Checked; 10] = [
-    (
-        &[b"Joe R. Developer <joe@example.com> <bugs@example.com>\n"],
-        b"bob <BUGS@example.com>\n",
-        b"Joe R. Developer <joe@example.com>\n",
-    ),
-    (
-        &[TEAM],
-        b"JANE <Bugs@example.com>",
-        b"Jane Doe <jane@example.com>\n",
-    ),
-    (
-        &[TEAM],
-        b"bob <BUGS@example.com>\nnot a contact\n",
-        b"Joe R. Developer <joe@example.com>\nnot a contact\n",
-    ),
-    (&[b"N <a@x>", b"M <a@x>"], b"b <A@x>", b"M <a@x>\n"),
-    (&[b"N <n@x> <a@x>"], b"b <A@x>", b"N <n@x>\n"),
-    (
-        &[],
-        b"  Bob  < q@z > rest\r\n<>\n\nopen <x",
-        b"Bob <q@z>\n<>\n\nopen <x\n",
-    ),
-    (&[], b"x\r\ny\r", b"x\ny\r\n"),
-    (&[], b"# c <a@x>\n #\n", b"# c <a@x>\n #\n"),
-    (&[], b"", b""),
-    (&[TEAM], b"", b""),
-];
-
-fn are_answered(alloc: Global, (buffers, contacts, answers): &Checked) -> Result<bool, AllocError> {
-    Ok(check(alloc, buffers, contacts)?.as_slice() == *answers)
+pub fn call(run: &mut Run, word: &str, given: &[u8]) {
+    match word {
+        "check" => push_checked(run, given),
+        "compact" => push_compact(run, given),
+        "split" => {
+            let (before, after) = split(given);
+            push_between(&mut run.text, "    ", before, "\n");
+            push_between(&mut run.text, "    ", after, "\n");
+        }
+        _ => names::call(run, word, given),
+    }
 }
 
-/// Whether a stream that gets lines byte by byte has these answers.
-fn are_answered_in_turn(
-    alloc: Global,
-    (buffers, contacts, answers): &Checked,
-) -> Result<bool, AllocError> {
-    let mut stream = ContactStream::new(alloc, buffers)?;
-    let mut text = Vec::new(alloc);
-    for byte in *contacts {
-        stream.push(&[*byte], &mut text)?;
+/// The given texts. An empty text has none.
+fn parts_of(alloc: Global, given: &[u8]) -> Vec<&[u8]> {
+    let mut parts = Vec::new(alloc);
+    let mut rest = given;
+    for _ in 0..given.len() {
+        if rest.is_empty() {
+            break;
+        }
+        let (text, left) = cut(rest);
+        let _ = parts.push(text);
+        rest = left;
     }
-    stream.finish(&mut text)?;
-    Ok(text.as_slice() == *answers)
+    parts
+}
+
+fn push_compact(run: &mut Run, given: &[u8]) {
+    let buffers = parts_of(run.alloc, given);
+    push_made(&mut run.text, compact(run.alloc, &buffers));
+}
+
+fn push_made(text: &mut String, made: Result<Vec<u8>, AllocError>) {
+    if let Ok(bytes) = made {
+        push_between(text, "    ", &bytes, "\n");
+    }
+}
+
+/// Appends what contacts, the last text, are answered with buffers, the other texts, at once and byte by byte.
+fn push_checked(run: &mut Run, given: &[u8]) {
+    let (others, contacts) = given.rsplit_once_str(b"; ").unwrap_or((b"", given));
+    let buffers = parts_of(run.alloc, others);
+    push_made(&mut run.text, check(run.alloc, &buffers, contacts));
+    if let Ok(stream) = ContactStream::new(run.alloc, &buffers) {
+        push_in_turn(run, stream, contacts);
+    }
+}
+
+fn push_in_turn(run: &mut Run, mut stream: ContactStream, contacts: &[u8]) {
+    let mut answers = Vec::new(run.alloc);
+    for byte in contacts {
+        let _ = stream.push(&[*byte], &mut answers);
+    }
+    let _ = stream.finish(&mut answers);
+    push_between(&mut run.text, "    ", &answers, "\n");
 }
 
 #[test]
-fn contacts_are_answered_and_other_lines_are_kept(rt: HostRuntime) -> Result<(), AllocError> {
-    for (i, row) in CHECKED.iter().enumerate() {
-        assert!(rt; are_answered(rt.alloc(), row)?, "row {i}");
-        assert!(rt; are_answered_in_turn(rt.alloc(), row)?, "row {i}");
-    }
-    Ok(())
-}
-
-#[test]
-fn the_first_line_of_two_dashes_parts_an_input(rt: HostRuntime) {
-    static TABLE: [(&[u8], &[u8], &[u8]); 8] = [
-        (b"a\n--\nb", b"a\n", b"b"),
-        (b"a\n--\nb\n--\nc", b"a\n", b"b\n--\nc"),
-        (b"--", b"", b""),
-        (b"a\n -- \n", b"", b"a\n -- \n"),
-        (b"--\r\nx", b"", b"x"),
-        (b"--\r", b"", b"--\r"),
-        (b"a--\n---\n", b"", b"a--\n---\n"),
-        (b"", b"", b""),
-    ];
-    for (i, (input, before, after)) in TABLE.iter().enumerate() {
-        assert!(rt; split(input) == (*before, *after), "row {i}");
-    }
-}
-
-fn are_written(alloc: Global, buffers: &[&[u8]], want: &[u8]) -> Result<bool, AllocError> {
-    Ok(compact(alloc, buffers)?.as_slice() == want)
-}
-
-#[test]
-fn mailmaps_are_written_as_one(rt: HostRuntime) -> Result<(), AllocError> {
-    static TABLE: [(&[&[u8]], &[u8]); 4] = [
-        (&[], b""),
-        (&[b"N <a@x>", b"M <A@x>"], b" M <a@x>\n"),
-        (
-            &[b" # c <a@x>\nJane <j@x> <>\n<n@y> Bob <A@X>"],
-            b" Jane <j@x> <>\n # c <a@x>\n <n@y> Bob <a@x>\n",
-        ),
-        (&[b"plain\n# c <a@x>", b"<a@x>"], b""),
-    ];
-    for (i, (buffers, want)) in TABLE.iter().enumerate() {
-        assert!(rt; are_written(rt.alloc(), buffers, want)?, "row {i}");
-    }
-    Ok(())
+fn contacts_are_answered_and_mailmaps_are_written_as_one(rt: HostRuntime) {
+    assert_script(
+        &rt,
+        r#"
+## contacts are answered at once, and then byte by byte, and other lines are kept
+# the case of an email doesn't count
+check Joe R. Developer <joe@example.com> <bugs@example.com>\n; bob <BUGS@example.com>\n
+    Joe R. Developer <joe@example.com>\n
+    Joe R. Developer <joe@example.com>\n
+# nor that of an old name
+check \nJoe R. Developer <joe@example.com> <bugs@example.com>\nJane Doe <jane@example.com> Jane <bugs@example.com>\n; JANE <Bugs@example.com>
+    Jane Doe <jane@example.com>\n
+    Jane Doe <jane@example.com>\n
+# a line without a contact is kept
+check \nJoe R. Developer <joe@example.com> <bugs@example.com>\nJane Doe <jane@example.com> Jane <bugs@example.com>\n; bob <BUGS@example.com>\nnot a contact\n
+    Joe R. Developer <joe@example.com>\nnot a contact\n
+    Joe R. Developer <joe@example.com>\nnot a contact\n
+# later mailmaps replace what earlier ones have
+check N <a@x>; M <a@x>; b <A@x>
+    M <a@x>\n
+    M <a@x>\n
+check N <n@x> <a@x>; b <A@x>
+    N <n@x>\n
+    N <n@x>\n
+# contacts are trimmed, what follows them is no part of them, and an email may be empty
+check   Bob  < q@z > rest\r\n<>\n\nopen <x
+    Bob <q@z>\n<>\n\nopen <x\n
+    Bob <q@z>\n<>\n\nopen <x\n
+# a carriage return in front of a line feed is removed
+check x\r\ny\r
+    x\ny\r\n
+    x\ny\r\n
+# contacts have no comments
+check # c <a@x>\n #\n
+    # c <a@x>\n #\n
+    # c <a@x>\n #\n
+# no contacts
+check
+    ""
+    ""
+check \nJoe R. Developer <joe@example.com> <bugs@example.com>\nJane Doe <jane@example.com> Jane <bugs@example.com>\n;\x20
+    ""
+    ""
+check N <a@x>;\x20
+    ""
+    ""
+## the first line of two dashes parts an input
+# in front of it is the mailmap
+split a\n--\nb
+    a\n
+    b
+# only the first one counts
+split a\n--\nb\n--\nc
+    a\n
+    b\n--\nc
+split --
+    ""
+    ""
+split --\r\nx
+    ""
+    x
+# without one all are contacts
+split a\n -- \n
+    ""
+    a\n -- \n
+split --\r
+    ""
+    --\r
+split a--\n---\n
+    ""
+    a--\n---\n
+split
+    ""
+    ""
+## mailmaps are written as one
+# no mailmap
+compact
+    ""
+# later ones replace what earlier ones have
+compact N <a@x>; M <A@x>
+     M <a@x>\n
+compact  # c <a@x>\nJane <j@x> <>\n<n@y> Bob <A@X>
+     Jane <j@x> <>\n # c <a@x>\n <n@y> Bob <a@x>\n
+# nothing is mapped
+compact plain\n# c <a@x>; <a@x>
+    ""
+"#,
+    );
 }

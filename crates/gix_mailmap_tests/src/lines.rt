@@ -1,221 +1,348 @@
-use crate::given::Given::{Both, BothOfName, Email, Name};
-use crate::given::{Given, signature};
-use crate::lines::Fault::{
-    EmptyEmail, MissingClosingBracket, NoEmail, NothingToMap, UnclosedSecond,
-};
-use gix_mailmap::lines::Error;
-use gix_mailmap::{Entry, Snapshot, parse, parse_ignore_errors};
-use std::alloc::{AllocError, Global};
-use std::test::Fail;
+//! Lines of mailmaps, and the entries that they are parsed as.
+use crate::script::{Run, assert_script, contact_of, cut, push, push_between};
+use crate::snapshots;
+use mailmap_entries::Entry;
+use mailmap_grammar::lines::Error;
+use mailmap_grammar::{parse, parse_ignore_errors, parse_strict};
+use std::alloc::Global;
 
 /// What a line is parsed as.
-pub type Parsed<'a> = Result<Entry<'a>, Error<'a>>;
+type Item<'a> = Result<Entry<'a>, Error<'a>>;
 
-/// A fault as a table has it: the number of the line, and the input.
-#[derive(Clone, Copy)]
-pub enum Fault {
-    NoEmail(usize, &'static [u8]),
-    MissingClosingBracket(usize, &'static [u8]),
-    EmptyEmail(usize, &'static [u8]),
-    NothingToMap(usize, &'static [u8]),
-    UnclosedSecond(usize, &'static [u8]),
+pub fn call(run: &mut Run, word: &str, given: &[u8]) {
+    let text = &mut run.text;
+    match word {
+        "parse" => push_parsed(text, given),
+        "parse_strict" => push_strictly_parsed(text, given),
+        "parse_ignore_errors" => push_good(text, given),
+        "bytes" => push_bytes(text),
+        "brackets" => push_kinds(text, "    ", &BRACKETS, "\n"),
+        _ => snapshots::call(run, word, given),
+    }
 }
 
-impl Fault {
-    pub fn error(self) -> Error<'static> {
-        match self {
-            Fault::NoEmail(line, input) => Error::NoEmail { line, input },
-            Fault::MissingClosingBracket(line, input) => Error::MissingClosingBracket {
-                line,
-                input,
-            },
-            Fault::EmptyEmail(line, input) => Error::EmptyEmail { line, input },
-            Fault::NothingToMap(line, input) => Error::NothingToMap { line, input },
-            Fault::UnclosedSecond(line, input) => Error::UnclosedSecond { line, input },
+fn push_parsed(text: &mut String, buffer: &[u8]) {
+    for item in parse(buffer) {
+        push_item(text, &item);
+    }
+}
+
+fn push_strictly_parsed(text: &mut String, buffer: &[u8]) {
+    for item in parse_strict(buffer) {
+        push_item(text, &item);
+    }
+}
+
+fn push_good(text: &mut String, buffer: &[u8]) {
+    for entry in parse_ignore_errors(buffer) {
+        push_entry(text, &entry);
+    }
+}
+
+/// Appends an entry, or a fault with the number of its line and its input.
+fn push_item(text: &mut String, item: &Item<'_>) {
+    match item {
+        Ok(entry) => push_entry(text, entry),
+        Err(fault) => {
+            let _ = write!(text, "    {fault} ({}, ", fault.line());
+            push_between(text, "", fault.input(), ")\n");
         }
     }
 }
 
-/// What a line is parsed as, as a table has it.
-pub type Item = Result<Given, Fault>;
+/// Appends an entry as a line of a mailmap has it.
+pub fn push_entry(text: &mut String, entry: &Entry<'_>) {
+    push_contact(text, "   ", entry.new_name(), entry.new_email());
+    push_contact(text, "", entry.old_name(), Some(entry.old_email()));
+    push(text, "\n");
+}
 
-pub fn parsed_of(alloc: Global, items: &[Item]) -> Result<Vec<Parsed<'static>>, AllocError> {
-    let mut parsed = Vec::new(alloc);
-    for item in items {
-        parsed.push(match *item {
-            Ok(given) => Ok(given.entry()),
-            Err(fault) => Err(fault.error()),
-        })?;
+/// Appends a name and an email, if they are there.
+pub fn push_contact(text: &mut String, before: &str, name: Option<&[u8]>, email: Option<&[u8]>) {
+    push(text, before);
+    if let Some(name) = name {
+        push_between(text, " ", name, "");
     }
-    Ok(parsed)
+    if let Some(email) = email {
+        push_between(text, " <", email, ">");
+    }
 }
 
-/// Whether these are the items of `parse`.
-pub fn are_parsed(alloc: Global, buffer: &[u8], items: &[Item]) -> Result<bool, AllocError> {
-    let parsed: Vec<Parsed<'_>> = parse(buffer).collect(alloc)?;
-    Ok(parsed == parsed_of(alloc, items)?)
-}
-
-/// Whether `parse_ignore_errors` has the entries among these items.
-fn are_good(alloc: Global, buffer: &[u8], items: &[Item]) -> Result<bool, AllocError> {
-    let good: Vec<Entry<'_>> = parse_ignore_errors(buffer).collect(alloc)?;
-    let mut want = Vec::new(alloc);
-    for item in items {
-        if let Ok(given) = item {
-            want.push(given.entry())?;
+/// The entry that a text stands for, made by a constructor.
+pub fn entry_of(text: &[u8]) -> Entry<'_> {
+    let (name, email, rest) = contact_of(text);
+    if rest.is_empty() {
+        return match name {
+            Some(name) => Entry::change_name_by_email(name, email),
+            None => Entry::default(),
+        };
+    }
+    let (old_name, old_email, _) = contact_of(rest);
+    match (name, old_name) {
+        (None, None) => Entry::change_email_by_email(email, old_email),
+        (None, Some(old)) => Entry::change_email_by_name_and_email(email, old, old_email),
+        (Some(name), None) => Entry::change_name_and_email_by_email(name, email, old_email),
+        (Some(name), Some(old)) => {
+            Entry::change_name_and_email_by_name_and_email(name, email, old, old_email)
         }
     }
-    Ok(good == want)
 }
 
-/// Comments and blank lines are counted.
-#[test]
-fn a_line_has_an_entry_a_fault_or_nothing(rt: HostRuntime) -> Result<(), AllocError> {
-    static TABLE: [(&[u8], &[Item]); 19] = [
-        (b"", &[]),
-        (b"# c\n\n  Jane <j@x>", &[Ok(Name(b"Jane", b"j@x"))]),
-        (b" # c", &[Err(NoEmail(1, b"# c"))]),
-        (b"# c\n\nplain", &[Err(NoEmail(3, b"plain"))]),
-        (
-            b"<a@x>\nJane <a@x\nJane < > <b@x>\nplain",
-            &[
-                Err(NothingToMap(1, b"<a@x>")),
-                Err(MissingClosingBracket(2, b"Jane <a@x")),
-                Err(EmptyEmail(3, b"Jane < > <b@x>")),
-                Err(NoEmail(4, b"plain")),
-            ],
-        ),
-        (b"Jane <a@x> <b", &[Ok(Name(b"Jane", b"a@x"))]),
-        (b"<a@x> <b", &[Err(NothingToMap(1, b"<a@x> <b"))]),
-        (b"a>b <a@x> <b", &[Ok(Name(b"a>b", b"a@x"))]),
-        (b"Jane < > <b", &[Err(EmptyEmail(1, b"Jane < > <b"))]),
-        (b"Jane <a@x> tail", &[Ok(Name(b"Jane", b"a@x"))]),
-        (b"Jane <a@x> <>", &[Ok(Both(b"Jane", b"a@x", b""))]),
-        (b"<n@x> <a@x>", &[Ok(Email(b"n@x", b"a@x"))]),
-        (
-            b"a>b <c<d> e>f <g>h<i>",
-            &[Ok(BothOfName(b"a>b", b"c<d", b"e>f", b"g"))],
-        ),
-        (
-            b"\xe3\x80\x80Jane\xc2\xa0 <a@x\xe2\x80\x8b>",
-            &[Ok(Name(b"Jane", b"a@x\xe2\x80\x8b"))],
-        ),
-        (b"\xffJ <a@x>", &[Ok(Name(b"\xffJ", b"a@x"))]),
-        (
-            b"J\xa0 <a@x\xe2\xc2\xa0>",
-            &[Ok(Name(b"J\xa0", b"a@x\xe2"))],
-        ),
-        (
-            b"Jane <a@x>\r\n\r\nBob <b@x>\r",
-            &[Ok(Name(b"Jane", b"a@x")), Ok(Name(b"Bob", b"b@x"))],
-        ),
-        (
-            b"\nJoe R. Developer <joe@example.com> <bugs@example.com>\n\
-            Jane Doe <jane@example.com> Jane <bugs@example.com>\n",
-            &[
-                Ok(Both(b"Joe R. Developer", b"joe@example.com", b"bugs@example.com")),
-                Ok(BothOfName(
-                    b"Jane Doe",
-                    b"jane@example.com",
-                    b"Jane",
-                    b"bugs@example.com",
-                )),
-            ],
-        ),
-        (
-            b"<a@x>\nJane <j@x>\nplain\nBob <b@x>",
-            &[
-                Err(NothingToMap(1, b"<a@x>")),
-                Ok(Name(b"Jane", b"j@x")),
-                Err(NoEmail(3, b"plain")),
-                Ok(Name(b"Bob", b"b@x")),
-            ],
-        ),
-    ];
-    for (i, (buffer, items)) in TABLE.iter().enumerate() {
-        assert!(rt; are_parsed(rt.alloc(), buffer, items)?, "row {i}");
-        assert!(rt; are_good(rt.alloc(), buffer, items)?, "row {i}");
+pub fn entries_of(alloc: Global, given: &[u8]) -> Vec<Entry<'_>> {
+    let mut entries = Vec::new(alloc);
+    let mut rest = given;
+    for _ in 0..given.len() {
+        if rest.is_empty() {
+            break;
+        }
+        let (text, left) = cut(rest);
+        let _ = entries.push(entry_of(text));
+        rest = left;
     }
-    Ok(())
+    entries
 }
 
-fn has_text(alloc: Global, fault: Fault, text: &str) -> Result<bool, AllocError> {
-    Ok(fault.error().to_string(alloc)?.as_str() == text)
-}
-
-#[test]
-fn a_fault_has_a_text(rt: HostRuntime) -> Result<(), AllocError> {
-    static TABLE: [(Fault, &str); 5] = [
-        (NoEmail(3, b"plain"), "Line 3 does not contain an email"),
-        (
-            MissingClosingBracket(2, b"Jane <a@x"),
-            "2: Missing closing bracket '>' in email",
-        ),
-        (
-            EmptyEmail(3, b"Jane < > <b@x>"),
-            "3: Email must not be empty",
-        ),
-        (
-            NothingToMap(1, b"<a@x>"),
-            "1: Emails without a name or email to map to are invalid",
-        ),
-        (
-            UnclosedSecond(1, b" <b"),
-            "1: Missing closing bracket '>' in second email",
-        ),
-    ];
-    for (i, (fault, text)) in TABLE.iter().enumerate() {
-        assert!(rt; has_text(rt.alloc(), *fault, text)?, "row {i}");
+/// Appends what each byte is parsed as if it is a buffer, 16 in a line.
+fn push_bytes(text: &mut String) {
+    for byte in 0..=255_u8 {
+        let before = if byte % 16 == 0 { "     " } else { " " };
+        let after = if byte % 16 == 15 { "\n" } else { "" };
+        push_kinds(text, before, &[byte], after);
     }
-    Ok(())
 }
 
-fn first_entry(buffer: &[u8]) -> Option<Entry<'_>> {
-    parse_ignore_errors(buffer).next()
+static BRACKETS: [u8; 100_000] = [b'<'; 100_000];
+
+/// Appends a character for what a line is parsed as, and one for what it is parsed as strictly, between two texts. An
+/// entry and a fault outlive the iterator.
+fn push_kinds(text: &mut String, before: &str, line: &[u8], after: &str) {
+    let item = parse(line).next();
+    let strict_item = parse_strict(line).next();
+    let kind = kind_of(&item, line);
+    let strict_kind = kind_of(&strict_item, line);
+    let _ = write!(text, "{before}{kind}{strict_kind}{after}");
 }
 
-fn first_fault(buffer: &[u8]) -> Option<Error<'_>> {
-    parse(buffer).filter_map(Result::err).next()
+fn kind_of(item: &Option<Item<'_>>, line: &[u8]) -> &'static str {
+    match item {
+        None => "",
+        Some(Err(Error::NoEmail { line: 1, input })) if *input == line => "N",
+        Some(Err(Error::MissingClosingBracket { line: 1, input })) if *input == line => "<",
+        _ => "?",
+    }
 }
 
 #[test]
-fn an_entry_and_a_fault_outlive_the_iterator(rt: HostRuntime) {
-    let buffer = b"Jane <a@x>\nplain";
-    let entry = first_entry(buffer);
-    assert!(rt; entry == Some(Entry::change_name_by_email(b"Jane", b"a@x")));
-    let fault = first_fault(buffer);
-    assert!(rt;
-        fault.is_some_and(|fault| fault.line() == 2 && fault.input() == b"plain".as_slice())
+fn a_line_has_an_entry_a_fault_or_nothing(rt: HostRuntime) {
+    assert_script(
+        &rt,
+        r#"
+## a line has an entry, a fault or nothing; comments and blank lines are counted
+# an empty buffer has no line
+parse
+parse_ignore_errors
+# white space around a line is no part of it
+parse # c\n\n  Jane <j@x>
+    Jane <j@x>
+# only a line that begins with # is a comment
+parse  # c
+    Line 1 does not contain an email (1, # c)
+parse # c\n\nplain
+    Line 3 does not contain an email (3, plain)
+# each fault has the number and the text of its line
+parse <a@x>\nJane <a@x\nJane < > <b@x>\nplain
+    1: Emails without a name or email to map to are invalid (1, <a@x>)
+    2: Missing closing bracket '>' in email (2, Jane <a@x)
+    3: Email must not be empty (3, Jane < > <b@x>)
+    Line 4 does not contain an email (4, plain)
+# an open second email is no second email
+parse Jane <a@x> <b
+    Jane <a@x>
+parse <a@x> <b
+    1: Emails without a name or email to map to are invalid (1, <a@x> <b)
+parse a>b <a@x> <b
+    a>b <a@x>
+parse Jane < > <b
+    1: Email must not be empty (1, Jane < > <b)
+parse Jane <a@x> tail
+    Jane <a@x>
+# the second email may be empty
+parse Jane <a@x> <>
+    Jane <a@x> <>
+parse <n@x> <a@x>
+    <n@x> <a@x>
+# the first < and the first > after it count
+parse a>b <c<d> e>f <g>h<i>
+    a>b <c<d> e>f <g>
+# white space of Unicode is trimmed, but not a zero width space, nor bytes that aren't UTF-8
+parse \xe3\x80\x80Jane\xc2\xa0 <a@x\xe2\x80\x8b>
+    Jane <a@x\xe2\x80\x8b>
+parse \xffJ <a@x>
+    \xffJ <a@x>
+parse J\xa0 <a@x\xe2\xc2\xa0>
+    J\xa0 <a@x\xe2>
+# carriage returns are trimmed
+parse Jane <a@x>\r\n\r\nBob <b@x>\r
+    Jane <a@x>
+    Bob <b@x>
+# the example of the original
+parse \nJoe R. Developer <joe@example.com> <bugs@example.com>\nJane Doe <jane@example.com> Jane <bugs@example.com>\n
+    Joe R. Developer <joe@example.com> <bugs@example.com>
+    Jane Doe <jane@example.com> Jane <bugs@example.com>
+parse_ignore_errors \nJoe R. Developer <joe@example.com> <bugs@example.com>\nJane Doe <jane@example.com> Jane <bugs@example.com>\n
+    Joe R. Developer <joe@example.com> <bugs@example.com>
+    Jane Doe <jane@example.com> Jane <bugs@example.com>
+# after a fault the next lines count
+parse <a@x>\nJane <j@x>\nplain\nBob <b@x>
+    1: Emails without a name or email to map to are invalid (1, <a@x>)
+    Jane <j@x>
+    Line 3 does not contain an email (3, plain)
+    Bob <b@x>
+parse_ignore_errors <a@x>\nJane <j@x>\nplain\nBob <b@x>
+    Jane <j@x>
+    Bob <b@x>
+## an open second email is a fault if lines are parsed strictly; in front of it, what parse answers is the same
+# the input of the fault is what follows the first email
+parse_strict Jane <a@x> <b
+    1: Missing closing bracket '>' in second email (1,  <b)
+parse_strict a>b <a@x> <b
+    1: Missing closing bracket '>' in second email (1,  <b)
+# it comes before the fault that there is nothing to map
+parse_strict <a@x> <b
+    1: Missing closing bracket '>' in second email (1,  <b)
+# but an empty email comes before it
+parse_strict Jane < > <b
+    1: Email must not be empty (1, Jane < > <b)
+# text without a bracket is ignored
+parse_strict Jane <a@x> tail
+    Jane <a@x>
+# a written mailmap is read alike
+parse_strict  Jane <j@x> <>\n # c <a@x>\n <n@y> Bob <a@x>\n
+    Jane <j@x> <>
+    # c <a@x>
+    <n@y> Bob <a@x>
+parse  Jane <j@x> <>\n # c <a@x>\n <n@y> Bob <a@x>\n
+    Jane <j@x> <>
+    # c <a@x>
+    <n@y> Bob <a@x>
+# the next lines count
+parse_strict # c\n<a@x>\nJane <a@x> <b\nplain\n\nJane <a@x\nBob <b@x>
+    2: Emails without a name or email to map to are invalid (2, <a@x>)
+    3: Missing closing bracket '>' in second email (3,  <b)
+    Line 4 does not contain an email (4, plain)
+    6: Missing closing bracket '>' in email (6, Jane <a@x)
+    Bob <b@x>
+parse # c\n<a@x>\nJane <a@x> <b\nplain\n\nJane <a@x\nBob <b@x>
+    2: Emails without a name or email to map to are invalid (2, <a@x>)
+    Jane <a@x>
+    Line 4 does not contain an email (4, plain)
+    6: Missing closing bracket '>' in email (6, Jane <a@x)
+    Bob <b@x>
+## a line may be any byte, be long and end anywhere
+# a line may be any byte: N for a line without an email and < for an open one, parsed and then strictly
+bytes
+     NN NN NN NN NN NN NN NN NN      NN NN
+     NN NN NN NN NN NN NN NN NN NN NN NN NN NN NN NN
+      NN NN  NN NN NN NN NN NN NN NN NN NN NN NN
+     NN NN NN NN NN NN NN NN NN NN NN NN << NN NN NN
+     NN NN NN NN NN NN NN NN NN NN NN NN NN NN NN NN
+     NN NN NN NN NN NN NN NN NN NN NN NN NN NN NN NN
+     NN NN NN NN NN NN NN NN NN NN NN NN NN NN NN NN
+     NN NN NN NN NN NN NN NN NN NN NN NN NN NN NN NN
+     NN NN NN NN NN NN NN NN NN NN NN NN NN NN NN NN
+     NN NN NN NN NN NN NN NN NN NN NN NN NN NN NN NN
+     NN NN NN NN NN NN NN NN NN NN NN NN NN NN NN NN
+     NN NN NN NN NN NN NN NN NN NN NN NN NN NN NN NN
+     NN NN NN NN NN NN NN NN NN NN NN NN NN NN NN NN
+     NN NN NN NN NN NN NN NN NN NN NN NN NN NN NN NN
+     NN NN NN NN NN NN NN NN NN NN NN NN NN NN NN NN
+     NN NN NN NN NN NN NN NN NN NN NN NN NN NN NN NN
+# a line of 100,000 brackets has one fault
+brackets
+    <<
+# a line may end anywhere: each front is parsed, and then strictly
+parse
+parse_strict
+parse J
+    Line 1 does not contain an email (1, J)
+parse_strict J
+    Line 1 does not contain an email (1, J)
+parse Ja
+    Line 1 does not contain an email (1, Ja)
+parse_strict Ja
+    Line 1 does not contain an email (1, Ja)
+parse Jan
+    Line 1 does not contain an email (1, Jan)
+parse_strict Jan
+    Line 1 does not contain an email (1, Jan)
+parse Jane
+    Line 1 does not contain an email (1, Jane)
+parse_strict Jane
+    Line 1 does not contain an email (1, Jane)
+parse Jane\x20
+    Line 1 does not contain an email (1, Jane)
+parse_strict Jane\x20
+    Line 1 does not contain an email (1, Jane)
+parse Jane <
+    1: Missing closing bracket '>' in email (1, Jane <)
+parse_strict Jane <
+    1: Missing closing bracket '>' in email (1, Jane <)
+parse Jane <a
+    1: Missing closing bracket '>' in email (1, Jane <a)
+parse_strict Jane <a
+    1: Missing closing bracket '>' in email (1, Jane <a)
+parse Jane <a@
+    1: Missing closing bracket '>' in email (1, Jane <a@)
+parse_strict Jane <a@
+    1: Missing closing bracket '>' in email (1, Jane <a@)
+parse Jane <a@x
+    1: Missing closing bracket '>' in email (1, Jane <a@x)
+parse_strict Jane <a@x
+    1: Missing closing bracket '>' in email (1, Jane <a@x)
+parse Jane <a@x>
+    Jane <a@x>
+parse_strict Jane <a@x>
+    Jane <a@x>
+parse Jane <a@x>\x20
+    Jane <a@x>
+parse_strict Jane <a@x>\x20
+    Jane <a@x>
+parse Jane <a@x> B
+    Jane <a@x>
+parse_strict Jane <a@x> B
+    Jane <a@x>
+parse Jane <a@x> Bo
+    Jane <a@x>
+parse_strict Jane <a@x> Bo
+    Jane <a@x>
+parse Jane <a@x> Bob
+    Jane <a@x>
+parse_strict Jane <a@x> Bob
+    Jane <a@x>
+parse Jane <a@x> Bob\x20
+    Jane <a@x>
+parse_strict Jane <a@x> Bob\x20
+    Jane <a@x>
+parse Jane <a@x> Bob <
+    Jane <a@x>
+parse_strict Jane <a@x> Bob <
+    1: Missing closing bracket '>' in second email (1,  Bob <)
+parse Jane <a@x> Bob <b
+    Jane <a@x>
+parse_strict Jane <a@x> Bob <b
+    1: Missing closing bracket '>' in second email (1,  Bob <b)
+parse Jane <a@x> Bob <b@
+    Jane <a@x>
+parse_strict Jane <a@x> Bob <b@
+    1: Missing closing bracket '>' in second email (1,  Bob <b@)
+parse Jane <a@x> Bob <b@x
+    Jane <a@x>
+parse_strict Jane <a@x> Bob <b@x
+    1: Missing closing bracket '>' in second email (1,  Bob <b@x)
+parse Jane <a@x> Bob <b@x>
+    Jane <a@x> Bob <b@x>
+parse_strict Jane <a@x> Bob <b@x>
+    Jane <a@x> Bob <b@x>
+"#,
     );
-}
-
-/// The entries of a mailmap, or its first fault.
-fn collected(alloc: Global, buffer: &[u8]) -> Result<Vec<Entry<'_>>, Fail> {
-    parse(buffer)
-        .map(|item| item.map_err(Fail::from))
-        .try_collect(alloc)
-}
-
-fn is_resolved(alloc: Global, snapshot: &Snapshot) -> Result<bool, AllocError> {
-    let asked = signature(b"Jane", b"bugs@example.com", "1711398853 +0800");
-    let resolved = snapshot.resolve(alloc, asked)?;
-    Ok(
-        resolved.name.as_slice() == b"Jane Doe".as_slice()
-            && resolved.email.as_slice() == b"jane@example.com".as_slice(),
-    )
-}
-
-/// The example in the documentation of the original.
-#[test]
-fn a_mailmap_without_faults_is_collected(rt: HostRuntime) -> Result<(), Fail> {
-    let input = b"
-Joe R. Developer <joe@example.com> <bugs@example.com>
-Jane Doe <jane@example.com> Jane <bugs@example.com>
-";
-    let parsed = collected(rt.alloc(), input)?;
-    assert!(rt; parsed.len() == 2);
-    let snapshot = Snapshot::new(rt.alloc(), parsed.into_iter())?;
-    assert!(rt; snapshot == Snapshot::from_bytes(rt.alloc(), input)?);
-    assert!(rt; is_resolved(rt.alloc(), &snapshot)?);
-    Ok(())
 }

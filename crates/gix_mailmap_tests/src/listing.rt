@@ -1,165 +1,236 @@
-use crate::given::Given::{Both, Email, EmailOfName, Name};
-use crate::given::{Given, entries_of, hash_of, snapshot_of};
-use gix_mailmap::{Entry, Snapshot};
-use std::alloc::{AllocError, Global};
+//! What snapshots list, how they compare, and what they are written as.
+use crate::lines::{entries_of, push_entry};
+use crate::lookups;
+use crate::orders::hash_of;
+use crate::script::{Run, assert_script, push_between, push_bool};
+use mailmap_snapshot::Snapshot;
+use mailmap_snapshot::snapshot::WriteError;
+use std::alloc::AllocError;
 
-fn items_of<'s>(alloc: Global, snapshot: &'s Snapshot) -> Result<Vec<Entry<'s>>, AllocError> {
-    snapshot.iter().collect(alloc)
-}
-
-/// Whether a snapshot lists these entries.
-fn lists(alloc: Global, snapshot: &Snapshot, listed: &[Given]) -> Result<bool, AllocError> {
-    Ok(
-        items_of(alloc, snapshot)? == entries_of(alloc, listed)?
-            && snapshot.entries(alloc)? == entries_of(alloc, listed)?
-            && snapshot.len() == listed.len(),
-    )
-}
-
-fn are_listed(alloc: Global, given: &[Given], listed: &[Given]) -> Result<bool, AllocError> {
-    lists(alloc, &snapshot_of(alloc, given)?, listed)
-}
-
-/// By the folded email, and for each email the entry without an old name first, then by the folded old name.
-#[test]
-fn entries_are_listed_in_the_order_without_case(rt: HostRuntime) -> Result<(), AllocError> {
-    static TABLE: [(&[Given], &[Given]); 4] = [
-        (&[], &[]),
-        (
-            &[Name(b"1", b"Z@x"), Name(b"2", b"_@x"), Name(b"3", b"a@x")],
-            &[Name(b"2", b"_@x"), Name(b"3", b"a@x"), Name(b"1", b"Z@x")],
-        ),
-        (
-            &[Name(b"P", b"x@y"), EmailOfName(b"n@y", b"", b"x@y")],
-            &[Name(b"P", b"x@y"), EmailOfName(b"n@y", b"", b"x@y")],
-        ),
-        (
-            &[
-                EmailOfName(b"1@y", b"Zoe", b"B@x"),
-                EmailOfName(b"2@y", b"_", b"b@x"),
-                EmailOfName(b"3@y", b"ann", b"b@x"),
-                Name(b"P", b"b@x"),
-                Name(b"P", b"a@x"),
-            ],
-            &[
-                Name(b"P", b"a@x"),
-                Name(b"P", b"B@x"),
-                EmailOfName(b"2@y", b"_", b"B@x"),
-                EmailOfName(b"3@y", b"ann", b"B@x"),
-                EmailOfName(b"1@y", b"Zoe", b"B@x"),
-            ],
-        ),
-    ];
-    for (i, (given, listed)) in TABLE.iter().enumerate() {
-        assert!(rt; are_listed(rt.alloc(), given, listed)?, "row {i}");
+pub fn call(run: &mut Run, word: &str, given: &[u8]) {
+    match word {
+        "iter" => push_listed(&mut run.text, &run.snapshot),
+        "entries" => push_entries(run),
+        "equals" => push_equality(run, given),
+        "debug" => {
+            let _ = writeln!(run.text, "    {:?}", run.snapshot);
+        }
+        "write" => push_written(&mut run.text, run.snapshot.write(run.alloc)),
+        "write_without_memory" => {
+            push_written(&mut run.text, Err(WriteError::Memory(AllocError)))
+        }
+        _ => lookups::call(run, word, given),
     }
-    Ok(())
 }
 
-/// Whether snapshots are equal. They hash alike then.
-fn are_equal(one: &Snapshot, other: &Snapshot) -> bool {
-    one == other && hash_of(one) == hash_of(other)
-}
-
-/// Snapshots are equal if what they list is, also in its spelling, whatever came before.
-#[test]
-fn snapshots_are_equal_by_what_they_list(rt: HostRuntime) -> Result<(), AllocError> {
-    const FIRST: Given = EmailOfName(b"n@y", b"Jane", b"X@y");
-    const P: Given = Name(b"P", b"x@y");
-    const Q: Given = Name(b"Q", b"x@y");
-    const NAMED: Given = EmailOfName(b"m@y", b"JANE", b"x@Y");
-    const LISTED: Given = EmailOfName(b"m@y", b"JANE", b"x@y");
-    const LAST: Given = Email(b"e@y", b"X@Y");
-    static TABLE: [(&[Given], &[Given], bool); 9] = [
-        (
-            &[Name(b"N", b"a@x")],
-            &[Name(b"Long", b"a@x"), Name(b"N", b"a@x")],
-            true,
-        ),
-        (
-            &[Name(b"N1", b"A@x"), Email(b"e@x", b"a@X")],
-            &[Both(b"N1", b"e@x", b"A@x")],
-            true,
-        ),
-        (&[FIRST, P, Q, NAMED, LAST], &[FIRST, Q, LISTED, LAST], true),
-        (
-            &[FIRST, P, Q, NAMED, LAST],
-            &[FIRST, P, Q, NAMED, LAST, FIRST, P, Q, NAMED, LAST],
-            true,
-        ),
-        (
-            &[Name(b"A", b"a@x"), Name(b"B", b"b@x")],
-            &[Name(b"B", b"b@x"), Name(b"A", b"a@x")],
-            true,
-        ),
-        (
-            &[EmailOfName(b"n@y", b"Jane", b"A@x"), Name(b"P", b"a@x")],
-            &[Name(b"P", b"a@x"), EmailOfName(b"n@y", b"Jane", b"A@x")],
-            false,
-        ),
-        (&[Name(b"N", b"a@x")], &[Name(b"N", b"A@x")], false),
-        (
-            &[Name(b"N", b"a@x")],
-            &[Name(b"N", b"a@x"), Name(b"N", b"b@x")],
-            false,
-        ),
-        // the same answers, but another list
-        (
-            &[Email(b"n@y", b"x@y")],
-            &[Email(b"n@y", b"x@y"), EmailOfName(b"n@y", b"Jane", b"x@y")],
-            false,
-        ),
-    ];
-    for (i, (one, other, equal)) in TABLE.iter().enumerate() {
-        let snapshot = snapshot_of(rt.alloc(), one)?;
-        let other = snapshot_of(rt.alloc(), other)?;
-        assert!(rt; are_equal(&snapshot, &other) == *equal, "row {i}");
-        assert!(rt;
-            are_equal(&snapshot, &snapshot.try_clone(rt.alloc())?),
-            "row {i}"
-        );
+fn push_listed(text: &mut String, snapshot: &Snapshot) {
+    for entry in snapshot.iter() {
+        push_entry(text, &entry);
     }
-    Ok(())
 }
 
-/// Merges two entries a thousand times, each alone.
-fn merge_thousand_times(
-    snapshot: &mut Snapshot,
-    first: &[Entry<'_>],
-    second: &[Entry<'_>],
-) -> Result<(), AllocError> {
-    for _ in 0..1000 {
-        snapshot.merge(first.iter().copied())?;
-        snapshot.merge(second.iter().copied())?;
+/// Appends the entries, and how many there are.
+fn push_entries(run: &mut Run) {
+    if let Ok(entries) = run.snapshot.entries(run.alloc) {
+        for entry in entries.iter() {
+            push_entry(&mut run.text, entry);
+        }
     }
-    Ok(())
+    let _ = writeln!(run.text, "    {}", run.snapshot.len());
 }
 
-/// Replaced texts leave no trace in what is compared, hashed, copied and listed. The copy outlives the snapshot.
-#[test]
-fn a_thousand_replaced_names_are_forgotten(rt: HostRuntime) -> Result<(), AllocError> {
-    let long = entries_of(rt.alloc(), &[Name(b"Long", b"a@x")])?;
-    let short = entries_of(rt.alloc(), &[Name(b"N", b"a@x")])?;
-    let mut snapshot = Snapshot::empty(rt.alloc());
-    merge_thousand_times(&mut snapshot, long.as_slice(), short.as_slice())?;
-    let once = Snapshot::new(rt.alloc(), short.iter().copied())?;
-    assert!(rt; are_equal(&snapshot, &once));
-    let copy = snapshot.try_clone(rt.alloc())?;
-    drop(snapshot);
-    assert!(rt; lists(rt.alloc(), &copy, &[Name(b"N", b"a@x")])?);
-    Ok(())
+/// Appends whether the snapshot is equal to that of other entries, and hashes alike.
+fn push_equality(run: &mut Run, given: &[u8]) {
+    let entries = entries_of(run.alloc, given);
+    if let Ok(other) = Snapshot::new(run.alloc, entries.into_iter()) {
+        let is_same = run.snapshot == other && hash_of(&run.snapshot) == hash_of(&other);
+        push_bool(&mut run.text, is_same);
+    }
 }
 
-fn has_text_of_entries(alloc: Global, snapshot: &Snapshot) -> Result<bool, AllocError> {
-    let entries = snapshot.entries(alloc)?;
-    let want = format!(in alloc; "{entries:?}")?;
-    let text = format!(in alloc; "{snapshot:?}")?;
-    Ok(text == want)
+fn push_written(text: &mut String, written: Result<Vec<u8>, WriteError>) {
+    match written {
+        Ok(bytes) => push_between(text, "    ", &bytes, "\n"),
+        Err(error) => {
+            let _ = writeln!(text, "    {error}");
+        }
+    }
 }
 
 #[test]
-fn the_debug_text_is_that_of_the_entries(rt: HostRuntime) -> Result<(), AllocError> {
-    let snapshot = Snapshot::from_bytes(rt.alloc(), b"N <a@x>\n<e@y> <b@x>")?;
-    assert!(rt; has_text_of_entries(rt.alloc(), &snapshot)?);
-    Ok(())
+fn snapshots_are_listed_compared_and_written(rt: HostRuntime) {
+    assert_script(
+        &rt,
+        r#"
+## entries are listed by the old email without case, and for each email the one without an old name first, then by the
+## old name
+# an empty buffer
+from_bytes
+iter
+entries
+    0
+# letters count as lower case, so _ comes before all of them
+new 1 <Z@x>; 2 <_@x>; 3 <a@x>
+iter
+    2 <_@x>
+    3 <a@x>
+    1 <Z@x>
+entries
+    2 <_@x>
+    3 <a@x>
+    1 <Z@x>
+    3
+# an entry without an old name comes before one with an empty old name
+new P <x@y>; <n@y> "" <x@y>
+entries
+    P <x@y>
+    <n@y> "" <x@y>
+    2
+# emails, and their names
+new <1@y> Zoe <B@x>; <2@y> _ <b@x>; <3@y> ann <b@x>; P <b@x>; P <a@x>
+entries
+    P <a@x>
+    P <B@x>
+    <2@y> _ <B@x>
+    <3@y> ann <B@x>
+    <1@y> Zoe <B@x>
+    5
+# the debug text is that of the entries
+from_bytes N <a@x>
+debug
+    [Entry { new_name: Some([78]), new_email: None, old_name: None, old_email: [97, 64, 120] }]
+## snapshots are equal by what they list; equals compares with that of other entries, and equal ones hash alike
+# whatever came before
+new N <a@x>
+equals Long <a@x>; N <a@x>
+    true
+try_clone
+equals N <a@x>
+    true
+# however fields came together
+new N1 <A@x>; <e@x> <a@X>
+equals N1 <e@x> <A@x>
+    true
+try_clone
+equals N1 <e@x> <A@x>
+    true
+# some entries may be replaced by what they list
+new <n@y> Jane <X@y>; P <x@y>; Q <x@y>; <m@y> JANE <x@Y>; <e@y> <X@Y>
+equals <n@y> Jane <X@y>; Q <x@y>; <m@y> JANE <x@y>; <e@y> <X@Y>
+    true
+# all may come again
+new <n@y> Jane <X@y>; P <x@y>; Q <x@y>; <m@y> JANE <x@Y>; <e@y> <X@Y>
+equals <n@y> Jane <X@y>; P <x@y>; Q <x@y>; <m@y> JANE <x@Y>; <e@y> <X@Y>; <n@y> Jane <X@y>; P <x@y>; Q <x@y>; <m@y> JANE <x@Y>; <e@y> <X@Y>
+    true
+try_clone
+equals <n@y> Jane <X@y>; P <x@y>; Q <x@y>; <m@y> JANE <x@Y>; <e@y> <X@Y>
+    true
+# two emails in both orders
+new A <a@x>; B <b@x>
+equals B <b@x>; A <a@x>
+    true
+# the first spelling of an email counts
+new <n@y> Jane <A@x>; P <a@x>
+equals P <a@x>; <n@y> Jane <A@x>
+    false
+new N <a@x>
+equals N <A@x>
+    false
+# another entry
+new N <a@x>
+equals N <a@x>; N <b@x>
+    false
+# the same answers, but another list
+new <n@y> <x@y>
+equals <n@y> <x@y>; <n@y> Jane <x@y>
+    false
+# the example of the original
+from_bytes \nJoe R. Developer <joe@example.com> <bugs@example.com>\nJane Doe <jane@example.com> Jane <bugs@example.com>\n
+equals Joe R. Developer <joe@example.com> <bugs@example.com>; Jane Doe <jane@example.com> Jane <bugs@example.com>
+    true
+# and the entries that it is parsed as
+numbered 1; \nJoe R. Developer <joe@example.com> <bugs@example.com>\nJane Doe <jane@example.com> Jane <bugs@example.com>\n
+equals Joe R. Developer <joe@example.com> <bugs@example.com>; Jane Doe <jane@example.com> Jane <bugs@example.com>
+    true
+## a snapshot is written if lines can hold its entries; the error counts the entries of the listing from 0
+# nothing is written as nothing
+write
+    ""
+from_bytes # c <a@x>\nplain\n<b@x>\n
+write
+    ""
+# what is written is read as the same snapshot again, and written as the same text
+from_bytes  # c <a@x>\nJane <j@x> <>\n<n@y> Bob <A@X>
+write
+     Jane <j@x> <>\n # c <a@x>\n <n@y> Bob <a@x>\n
+equals Jane <j@x> <>; # c <a@x>; <n@y> Bob <a@x>
+    true
+from_bytes  Jane <j@x> <>\n # c <a@x>\n <n@y> Bob <a@x>\n
+equals # c <a@x>; Jane <j@x> <>; <n@y> Bob <A@X>
+    true
+write
+     Jane <j@x> <>\n # c <a@x>\n <n@y> Bob <a@x>\n
+# brackets in texts
+from_bytes a>b <c<d> e>f <g>h<i>
+write
+     a>b <c<d> e>f <g>\n
+from_bytes  a>b <c<d> e>f <g>\n
+equals a>b <c<d> e>f <g>
+    true
+write
+     a>b <c<d> e>f <g>\n
+from_bytes <n@y> <>
+write
+     <n@y> <>\n
+from_bytes  <n@y> <>\n
+equals <n@y> <>
+    true
+write
+     <n@y> <>\n
+# by constructors
+new <n@y> <>
+write
+     <n@y> <>\n
+new N> <n<@y> > <<>
+write
+     N> <n<@y> > <<>\n
+# the empty email can't be mapped to a name alone
+new N <>
+write
+    entry 0 cannot be written
+# nor can an email hold a >, or a line feed, or white space at its end
+new <n>y> <b@x>; N <a@x>
+write
+    entry 1 cannot be written
+new N <a\n@x>
+write
+    entry 0 cannot be written
+new N <a@x\xc2\xa0>
+write
+    entry 0 cannot be written
+# nor can a name be empty, or hold a <, or a line feed, or begin with a blank
+new "" <a@x>
+write
+    entry 0 cannot be written
+new N< <a@x>
+write
+    entry 0 cannot be written
+new N\nM <a@x>
+write
+    entry 0 cannot be written
+new  N <a@x>
+write
+    entry 0 cannot be written
+new <n@y> "" <a@x>
+write
+    entry 0 cannot be written
+# nor can a new email be empty
+new <> <x@y>
+write
+    entry 0 cannot be written
+# the other error
+write_without_memory
+    out of memory
+"#,
+    );
 }

@@ -1,135 +1,208 @@
-use crate::given::Given::{Both, BothOfName, Email, EmailOfName, Name};
-use crate::given::{Given, signature, snapshot_of};
-use gix_mailmap::Snapshot;
-use gix_mailmap::fold::Steps;
-use gix_mailmap::snapshot::ResolvedSignature;
-use std::alloc::AllocError;
+//! Lookups: what replaces a name and an email, and how many comparisons they take.
+use crate::lines::push_contact;
+use crate::script::{Run, assert_script, contact_of, cut, number_of, push, push_bool};
+use crate::signatures;
+use mailmap_entries::fold::Steps;
+use mailmap_snapshot::Snapshot;
+use mailmap_snapshot::actor::SignatureRef;
+use mailmap_snapshot::snapshot::ResolvedSignature;
+use std::alloc::Global;
+use std::cmp;
 
-/// The name and the email that are to replace those of a signature.
-type Answer<'a> = Option<(Option<&'a [u8]>, Option<&'a [u8]>)>;
-
-/// A name and an email, and the answer to them.
-type Asked = (&'static [u8], &'static [u8], Answer<'static>);
-
-fn answer_of(found: Option<ResolvedSignature<'_>>) -> Answer<'_> {
-    let found = found?;
-    Some((found.name, found.email))
-}
-
-fn is_answered(snapshot: &Snapshot, name: &[u8], email: &[u8], answer: Answer<'_>) -> bool {
-    let asked = signature(name, email, "");
-    let counted = snapshot.try_resolve_ref_counted(asked, &mut Steps::new());
-    answer_of(counted) == answer
-        && answer_of(snapshot.try_resolve_ref(asked)) == answer
-        && answer_of(snapshot.try_resolve_contact(name, email)) == answer
-}
-
-#[test]
-fn the_entry_of_the_name_counts_before_that_of_the_email(
-    rt: HostRuntime,
-) -> Result<(), AllocError> {
-    static TABLE: [(&[Given], &[Asked]); 12] = [
-        (&[], &[(b"Bob", b"a@x", None)]),
-        (
-            &[
-                Both(b"Joe R. Developer", b"joe@example.com", b"bugs@example.com"),
-                BothOfName(
-                    b"Jane Doe",
-                    b"jane@example.com",
-                    b"Jane",
-                    b"bugs@example.com",
-                ),
-            ],
-            &[
-                (
-                    b"Bob",
-                    b"bugs@example.com",
-                    Some((Some(b"Joe R. Developer"), Some(b"joe@example.com"))),
-                ),
-                (
-                    b"JANE",
-                    b"Bugs@example.com",
-                    Some((Some(b"Jane Doe"), Some(b"jane@example.com"))),
-                ),
-                (b"Bob", b"nobody@x", None),
-            ],
-        ),
-        // an email that is spelled otherwise is mapped to the spelling that is kept
-        (
-            &[Name(b"P", b"x@y")],
-            &[
-                (b"Bob", b"X@y", Some((Some(b"P"), Some(b"x@y")))),
-                (b"Bob", b"x@y", Some((Some(b"P"), None))),
-            ],
-        ),
-        (
-            &[Name(b"N1", b"A@x"), Email(b"e@x", b"a@X")],
-            &[(b"Bob", b"a@x", Some((Some(b"N1"), Some(b"e@x"))))],
-        ),
-        (
-            &[Name(b"P", b"x@y"), EmailOfName(b"n@y", b"Jane", b"x@y")],
-            &[
-                (b"jane", b"x@y", Some((None, Some(b"n@y")))),
-                (b"Bob", b"X@y", Some((Some(b"P"), Some(b"x@y")))),
-                (b"Bob", b"x@y", Some((Some(b"P"), None))),
-            ],
-        ),
-        (
-            &[EmailOfName(b"n@y", b"Jane", b"A@x"), Name(b"P", b"a@x")],
-            &[(b"Bob", b"a@x", Some((Some(b"P"), Some(b"A@x"))))],
-        ),
-        (
-            &[Name(b"P", b"a@x"), EmailOfName(b"n@y", b"Jane", b"A@x")],
-            &[
-                (b"Bob", b"a@x", Some((Some(b"P"), None))),
-                (b"Bob", b"A@x", Some((Some(b"P"), Some(b"a@x")))),
-            ],
-        ),
-        (
-            &[EmailOfName(b"n@y", b"Jane", b"x@y")],
-            &[
-                (b"Bob", b"X@y", Some((None, Some(b"x@y")))),
-                (b"Bob", b"x@y", None),
-            ],
-        ),
-        (
-            &[
-                BothOfName(b"Q", b"n1@y", b"Jane", b"x@y"),
-                EmailOfName(b"n2@y", b"JANE", b"X@Y"),
-            ],
-            &[
-                (b"Jane", b"x@y", Some((None, Some(b"n2@y")))),
-                (b"Bob", b"X@Y", Some((None, Some(b"x@y")))),
-                (b"Bob", b"x@y", None),
-            ],
-        ),
-        // empty texts are texts as others are
-        (&[Name(b"", b"")], &[(b"Bob", b"", Some((Some(b""), None)))]),
-        (
-            &[Name(b"P", b"x@y"), EmailOfName(b"n@y", b"", b"x@y")],
-            &[(b"", b"x@y", Some((None, Some(b"n@y"))))],
-        ),
-        (
-            &[Email(b"", b"x@y")],
-            &[(b"Bob", b"X@y", Some((None, Some(b""))))],
-        ),
-    ];
-    for (i, (given, table)) in TABLE.iter().enumerate() {
-        let snapshot = snapshot_of(rt.alloc(), given)?;
-        for (name, email, answer) in *table {
-            assert!(rt; is_answered(&snapshot, name, email, *answer), "row {i}");
+pub fn call(run: &mut Run, word: &str, given: &[u8]) {
+    let snapshot = &run.snapshot;
+    let text = &mut run.text;
+    match word {
+        "try_resolve_ref" => push_found(text, snapshot.try_resolve_ref(asked_of(given))),
+        "try_resolve_contact" => {
+            push_found(text, found_by_copy(run.alloc, snapshot, asked_of(given)))
         }
+        "try_resolve_ref_counted" => {
+            push_found(
+                text,
+                snapshot.try_resolve_ref_counted(asked_of(given), &mut Steps::new()),
+            )
+        }
+        "steps" => push_steps(text, snapshot, given),
+        "most_steps" => push_most_steps(run, given),
+        _ => signatures::call(run, word, given),
     }
-    Ok(())
+}
+
+/// A signature: a name, an email and a time.
+pub fn asked_of(given: &[u8]) -> SignatureRef<'_> {
+    let (name, email, time) = contact_of(given);
+    SignatureRef {
+        name: name.unwrap_or(b""),
+        email,
+        time: str::from_utf8(time).unwrap_or(""),
+    }
+}
+
+/// What a copy of an email finds. The answer outlives the copy.
+fn found_by_copy<'s>(
+    alloc: Global,
+    snapshot: &'s Snapshot,
+    asked: SignatureRef<'_>,
+) -> Option<ResolvedSignature<'s>> {
+    let email = Vec::from_slice(alloc, asked.email).ok()?;
+    snapshot.try_resolve_contact(asked.name, &email)
+}
+
+/// Appends the name and the email that replace those of a signature.
+fn push_found(text: &mut String, found: Option<ResolvedSignature<'_>>) {
+    match found {
+        Some(found) => push_contact(text, "   ", found.name, found.email),
+        None => push(text, "    nothing"),
+    }
+    push(text, "\n");
+}
+
+fn steps_of(snapshot: &Snapshot, asked: SignatureRef<'_>) -> usize {
+    let mut steps = Steps::new();
+    let _ = snapshot.try_resolve_ref_counted(asked, &mut steps);
+    steps.count()
+}
+
+/// Appends whether a lookup takes at least and at most so many comparisons.
+fn push_steps(text: &mut String, snapshot: &Snapshot, given: &[u8]) {
+    let (least, rest) = cut(given);
+    let (most, rest) = cut(rest);
+    let steps = steps_of(snapshot, asked_of(rest));
+    push_bool(text, number_of(least) <= steps && steps <= number_of(most));
+}
+
+/// Appends whether lookups of the emails `0@x` to `1023@x` take at most so many comparisons.
+fn push_most_steps(run: &mut Run, given: &[u8]) {
+    let mut most = 0;
+    let mut email = String::new(run.alloc);
+    for number in 0..1024_u32 {
+        email.clear();
+        let _ = write!(email, "n <{number}@x>");
+        most = cmp::max(most, steps_of(&run.snapshot, asked_of(email.as_bytes())));
+    }
+    push_bool(&mut run.text, most <= number_of(given));
 }
 
 #[test]
-fn an_answer_outlives_the_signature(rt: HostRuntime) -> Result<(), AllocError> {
-    let snapshot = Snapshot::from_bytes(rt.alloc(), b"P <x@y>")?;
-    let email = Vec::from_slice(rt.alloc(), b"X@y")?;
-    let found = snapshot.try_resolve_contact(b"Bob", &email);
-    drop(email);
-    let want: Answer<'_> = Some((Some(b"P"), Some(b"x@y")));
-    assert!(rt; answer_of(found) == want);
-    Ok(())
+fn a_lookup_finds_what_replaces_a_name_and_an_email(rt: HostRuntime) {
+    assert_script(
+        &rt,
+        r#"
+## the entry of the name counts before that of the email
+# nothing is known
+try_resolve_ref Bob <a@x>
+    nothing
+# the example of the original
+new Joe R. Developer <joe@example.com> <bugs@example.com>; Jane Doe <jane@example.com> Jane <bugs@example.com>
+try_resolve_ref Bob <bugs@example.com>
+    Joe R. Developer <joe@example.com>
+try_resolve_ref JANE <Bugs@example.com>
+    Jane Doe <jane@example.com>
+try_resolve_ref Bob <nobody@x>
+    nothing
+# an email that is spelled otherwise is mapped to the spelling that is kept
+new P <x@y>
+try_resolve_ref Bob <X@y>
+    P <x@y>
+try_resolve_contact Bob <X@y>
+    P <x@y>
+try_resolve_ref_counted Bob <X@y>
+    P <x@y>
+try_resolve_ref Bob <x@y>
+    P
+try_resolve_contact Bob <x@y>
+    P
+try_resolve_ref_counted Bob <x@y>
+    P
+# to a new email if there is one
+new N1 <A@x>; <e@x> <a@X>
+try_resolve_ref Bob <a@x>
+    N1 <e@x>
+# an entry with the name counts alone
+new P <x@y>; <n@y> Jane <x@y>
+try_resolve_ref jane <x@y>
+    <n@y>
+try_resolve_contact jane <x@y>
+    <n@y>
+try_resolve_ref_counted jane <x@y>
+    <n@y>
+try_resolve_ref Bob <X@y>
+    P <x@y>
+try_resolve_ref Bob <x@y>
+    P
+# the spelling that is kept is the first one, whichever entry has it
+new <n@y> Jane <A@x>; P <a@x>
+try_resolve_ref Bob <a@x>
+    P <A@x>
+new P <a@x>; <n@y> Jane <A@x>
+try_resolve_ref Bob <a@x>
+    P
+try_resolve_ref Bob <A@x>
+    P <a@x>
+# also if no entry without a name is there
+new <n@y> Jane <x@y>
+try_resolve_ref Bob <X@y>
+    <x@y>
+try_resolve_contact Bob <X@y>
+    <x@y>
+try_resolve_ref Bob <x@y>
+    nothing
+try_resolve_contact Bob <x@y>
+    nothing
+try_resolve_ref_counted Bob <x@y>
+    nothing
+# the last entry of a name counts, also if it has no new name
+new Q <n1@y> Jane <x@y>; <n2@y> JANE <X@Y>
+try_resolve_ref Jane <x@y>
+    <n2@y>
+try_resolve_ref Bob <X@Y>
+    <x@y>
+try_resolve_ref Bob <x@y>
+    nothing
+# empty texts are texts as others are
+new "" <>
+try_resolve_ref Bob <>
+    ""
+new P <x@y>; <n@y> "" <x@y>
+try_resolve_ref "" <x@y>
+    <n@y>
+new <> <x@y>
+try_resolve_ref Bob <X@y>
+    <>
+## a lookup compares once for each binary digit of the number of emails, and of names of the email that is found; steps
+## has the least and the most comparisons
+# no emails
+steps 0; 0; n <a@x>
+    true
+# one email
+new N <a@x>
+steps 1; 1; n <b@x>
+    true
+steps 1; 1; n <A@x>
+    true
+# three emails, and four names of the one that is found
+new N <a@x>; <1@x> A <b@x>; <2@x> B <b@x>; <3@x> C <b@x>; <4@x> D <b@x>; N <c@x>
+steps 2; 5; a <b@x>
+    true
+steps 2; 5; b <b@x>
+    true
+steps 2; 5; c <b@x>
+    true
+steps 2; 5; d <b@x>
+    true
+steps 2; 5; e <b@x>
+    true
+steps 1; 2; a <d@x>
+    true
+# 1,023 emails, and one that isn't known
+numbered 1023; N <#@x>
+most_steps 10
+    true
+# 1,024 emails
+numbered 1024; N <#@x>
+most_steps 11
+    true
+"#,
+    );
 }

@@ -1,142 +1,366 @@
+//! Names: their words, keys and marks, and the logins of emails.
+use crate::orders;
+use crate::script::{Run, assert_script, cut, push_between, push_bool};
 use mailmap_names::logins::login;
-use mailmap_names::names::{Name, login_keys};
-use std::alloc::{AllocError, Global};
-use std::test::Fail;
+use mailmap_names::names::{Name, first_words, login_keys, name_marks};
+use mailmap_names::words::words_of;
+use std::alloc::AllocError;
 
-// The texts with `|` between them.
-fn joined(alloc: Global, texts: &[Vec<u8>]) -> Result<Vec<u8>, AllocError> {
-    let mut joined = Vec::new(alloc);
-    for (i, text) in texts.iter().enumerate() {
-        if i > 0 {
-            joined.push(b'|')?;
+pub fn call(run: &mut Run, word: &str, given: &[u8]) {
+    match word {
+        "words" => push_words(run, given),
+        "marks" => push_texts(&mut run.text, name_marks(run.alloc, given)),
+        "first_words" => push_texts(&mut run.text, first_words(run.alloc, given)),
+        "is_related" => push_related(run, given),
+        "login" => push_between(&mut run.text, "    ", login(given), "\n"),
+        "login_keys" => push_texts(&mut run.text, login_keys(run.alloc, given)),
+        _ => orders::call(run, word, given),
+    }
+}
+
+fn push_words(run: &mut Run, name: &[u8]) {
+    if let Ok(words) = words_of(run.alloc, name) {
+        for word in words.iter() {
+            push_between(&mut run.text, "    ", word.as_bytes(), "\n");
         }
-        joined.extend_from_slice(text)?;
     }
-    Ok(joined)
 }
 
-/// The marks are those of the model.
-#[test]
-fn names_have_marks(rt: HostRuntime) -> Result<(), Fail> {
-    static TABLE: [(&str, &str); 18] = [
-        ("Jane Q. Doe", "njane q. doe|wdoe jane|tjaneqdoe"),
-        ("Doe, Jane", "ndoe, jane|wdoe jane|tdoejane"),
-        ("J. Doe", "nj. doe|wdoe j|tjdoe"),
-        ("J. Q. Doe", "nj. q. doe|wdoe j q|tjqdoe"),
-        ("jd", "njd"),
-        ("J. D.", "nj. d."),
-        ("JaneDoe", "njanedoe|wjanedoe|tjanedoe"),
-        ("Jane (work) Doe", "njane (work) doe|wdoe jane|tjanedoe"),
-        ("root", "nroot"),
-        ("Root", "nroot"),
-        ("ad-min", "nad-min"),
-        ("Admins", "nadmins|wadmins|tadmins"),
-        ("Ann", "nann|wann|tann"),
-        ("王小明", "n王小明|w王小明|t王小明"),
-        ("王明", "n王明"),
-        ("Æ Ø", "nÆ Ø|wae o|taeo"),
-        ("", ""),
-        ("...", "n..."),
-    ];
-    for (i, (name, marks)) in TABLE.iter().enumerate() {
-        let found = Name::read(rt.alloc(), name.as_bytes())?.marks(rt.alloc())?;
-        assert_eq!(rt;
-            joined(rt.alloc(), &found)?.as_slice(),
-            marks.as_bytes(),
-            "row {i}"
-        );
+/// Appends each text in a line of its own.
+fn push_texts(text: &mut String, made: Result<Vec<Vec<u8>>, AllocError>) {
+    if let Ok(texts) = made {
+        for bytes in texts.iter() {
+            push_between(text, "    ", bytes, "\n");
+        }
     }
-    Ok(())
 }
 
-/// Names are related as the model says, whichever comes first.
-#[test]
-fn names_are_related(rt: HostRuntime) -> Result<(), Fail> {
-    static TABLE: [(&str, &str, bool); 17] = [
-        ("Jane Doe", "Doe, JANE", true),
-        ("Jane Doe", "JaneDoe", true),
-        ("J. Doe", "Doe", true),
-        ("Jane Doe", "Jane Roe", true),
-        ("Li Doe", "Li Roe", false),
-        ("Ann Doe", "Ann Roe", true),
-        ("...", "...", true),
-        ("a-b", "A-B", true),
-        ("a-b", "ab", false),
-        ("", "", false),
-        ("root", "Root", true),
-        ("root", "r-oot", false),
-        ("Jane Doe", "", false),
-        ("Zoe Yan Xia Doe Ann", "Bob Eve Ann Roe Kim", true),
-        ("Zoe Yan Xia Doe Ann", "Bob Eve Roe Kim Ian", false),
-        ("Zoe Yan Zoe Xia Zoe", "Kim Zoe", true),
-        ("Ann Lee Joann", "Jo Leeann", false),
-    ];
-    for (i, (one, other, related)) in TABLE.iter().enumerate() {
-        let one = Name::read(rt.alloc(), one.as_bytes())?;
-        let other = Name::read(rt.alloc(), other.as_bytes())?;
-        assert_eq!(rt; one.is_related(&other), *related, "row {i}");
-        assert_eq!(rt; other.is_related(&one), *related, "row {i}");
+/// Appends whether a name is related to another one, and the other one to it.
+fn push_related(run: &mut Run, given: &[u8]) {
+    let (one, other) = cut(given);
+    if let Ok(one) = Name::read(run.alloc, one) {
+        if let Ok(other) = Name::read(run.alloc, other) {
+            push_bool(&mut run.text, one.is_related(&other));
+            push_bool(&mut run.text, other.is_related(&one));
+        }
     }
-    Ok(())
 }
 
-/// The logins and their keys are those of the model.
+/// The words, the marks, the relations and the logins are those of the model.
 #[test]
-fn emails_have_logins(rt: HostRuntime) -> Result<(), Fail> {
-    static TABLE: [(&str, &str, &str); 18] = [
-        ("jane@example.com", "jane", "wjane|tjane"),
-        ("Jane.Doe@example.com", "Jane.Doe", "wdoe jane|tjanedoe"),
-        ("jane+lists+x@example.com", "jane", "wjane|tjane"),
-        ("+jane@example.com", "+jane", "wjane|tjane"),
-        ("++x@y", "+", ""),
-        ("12345+jane@users.noreply.github.com", "jane", "wjane|tjane"),
-        (
-            "12345+jane+x@USERS.noreply.github.com",
-            "jane",
-            "wjane|tjane",
-        ),
-        ("+jane@users.noreply.github.com", "+jane", "wjane|tjane"),
-        ("12345+jane@example.com", "12345", "w12345|t12345"),
-        ("12345@users.noreply.github.com", "12345", "w12345|t12345"),
-        ("a@b@example.com", "a@b", ""),
-        ("jane", "jane", "wjane|tjane"),
-        ("info@example.com", "info", ""),
-        ("No-Reply@example.com", "No-Reply", ""),
-        ("jd@example.com", "jd", ""),
-        ("12345+git@users.noreply.github.com", "git", ""),
-        ("@example.com", "", ""),
-        ("", "", ""),
-    ];
-    for (i, (email, name, keys)) in TABLE.iter().enumerate() {
-        assert_eq!(rt; login(email.as_bytes()), name.as_bytes(), "row {i}");
-        let found = login_keys(rt.alloc(), email.as_bytes())?;
-        assert_eq!(rt;
-            joined(rt.alloc(), &found)?.as_slice(),
-            keys.as_bytes(),
-            "row {i}"
-        );
-    }
-    Ok(())
-}
-
-/// The first words are those of the model.
-#[test]
-fn names_have_first_words(rt: HostRuntime) -> Result<(), Fail> {
-    static TABLE: [(&str, &str); 6] = [
-        ("Jane Doe", "wjane|tjane"),
-        ("Jane", ""),
-        ("a b", "wa|ta"),
-        ("王 小明", "w王|t王"),
-        ("...", ""),
-        ("Jane (work)", ""),
-    ];
-    for (i, (name, words)) in TABLE.iter().enumerate() {
-        let found = Name::read(rt.alloc(), name.as_bytes())?.first_words(rt.alloc())?;
-        assert_eq!(rt;
-            joined(rt.alloc(), &found)?.as_slice(),
-            words.as_bytes(),
-            "row {i}"
-        );
-    }
-    Ok(())
+fn names_and_emails_give_words_keys_and_logins(rt: HostRuntime) {
+    assert_script(
+        &rt,
+        r#"
+## words; the last names have texts as Unicode compares them: letters with marks, in one character or in two,
+## ligatures, wide and small letters, İ and ı, Hangul in syllables or in letters, digits
+# words in lower case, without asides
+words Ann Lee
+    ann
+    lee
+words Lee, Ann
+    lee
+    ann
+words O'Neil-Roe
+    o
+    neil
+    roe
+words J. Müller II (work) via a list
+    j
+    muller
+    ii
+words Ann "Zoe" Lee
+    ann
+    lee
+words Ann "a" b "c
+    ann
+    b
+    c
+words (a (b) c
+    a
+    c
+words [[Ann] Lee] Roe
+    lee
+    roe
+words a [b (c] d) e
+    a
+    d
+    e
+words (Ann) (Lee)
+    ann
+    lee
+words Ann Lee (x) VIA list
+    ann
+    lee
+words Ann viA list via x
+    ann
+words Ann via
+    ann
+    via
+words via Ann
+    via
+    ann
+words Ann\x09via list
+    ann
+    via
+    list
+words  via list
+    via
+    list
+words (x) via list
+    x
+    via
+    list
+words
+words ...
+words Øystein Þór
+    oystein
+    thor
+words Đặng Łukasz
+    dang
+    lukasz
+words Ħal ıŋ ŧæœ ð
+    hal
+    in
+    taeoe
+    d
+words STRASSE Straße
+    strasse
+    strasse
+words ﬁn ﬀ
+    fin
+    ff
+words İbrahim ISIK ış
+    ibrahim
+    isik
+    is
+words ΣΊΣΥΦΟΣ
+    \xcf\x83\xce\xb9\xcf\x83\xcf\x85\xcf\x86\xce\xbf\xcf\x83
+words a\xcc\xa3\xcc\x87b ạ\xcc\x87b
+    ab
+    ab
+words Ａｎｎ ｱﾞ
+    ann
+    \xe3\x82\xa2
+words Ⅳ ½ ²
+    iv
+    1
+    2
+    2
+words 한
+    \xe1\x84\x92\xe1\x85\xa1\xe1\x86\xab
+words \xe1\x84\x92\xe1\x85\xa1\xe1\x86\xab
+    \xe1\x84\x92\xe1\x85\xa1\xe1\x86\xab
+words x\xe2\x80\x8dy\xc2\xadz
+    x
+    y
+    z
+words 中文
+    \xe4\xb8\xad\xe6\x96\x87
+# names that are not UTF-8 have none
+words Ann \xff
+words Ann \xc3
+words \xed\xa0\x80
+words \xc0\xa0
+## marks and first words
+# marks
+marks Jane Q. Doe
+    njane q. doe
+    wdoe jane
+    tjaneqdoe
+marks Doe, Jane
+    ndoe, jane
+    wdoe jane
+    tdoejane
+marks J. Doe
+    nj. doe
+    wdoe j
+    tjdoe
+marks J. Q. Doe
+    nj. q. doe
+    wdoe j q
+    tjqdoe
+marks jd
+    njd
+marks J. D.
+    nj. d.
+marks JaneDoe
+    njanedoe
+    wjanedoe
+    tjanedoe
+marks Jane (work) Doe
+    njane (work) doe
+    wdoe jane
+    tjanedoe
+marks root
+    nroot
+marks Root
+    nroot
+marks ad-min
+    nad-min
+marks Admins
+    nadmins
+    wadmins
+    tadmins
+marks Ann
+    nann
+    wann
+    tann
+marks 王小明
+    n\xe7\x8e\x8b\xe5\xb0\x8f\xe6\x98\x8e
+    w\xe7\x8e\x8b\xe5\xb0\x8f\xe6\x98\x8e
+    t\xe7\x8e\x8b\xe5\xb0\x8f\xe6\x98\x8e
+marks 王明
+    n\xe7\x8e\x8b\xe6\x98\x8e
+marks Æ Ø
+    n\xc3\x86 \xc3\x98
+    wae o
+    taeo
+marks
+marks ...
+    n...
+# first words
+first_words Jane Doe
+    wjane
+    tjane
+first_words Jane
+first_words a b
+    wa
+    ta
+first_words 王 小明
+    w\xe7\x8e\x8b
+    t\xe7\x8e\x8b
+first_words ...
+first_words Jane (work)
+## related names, whichever comes first
+# by the same words, a common word, or the same text
+is_related Jane Doe; Doe, JANE
+    true
+    true
+is_related Jane Doe; JaneDoe
+    true
+    true
+is_related J. Doe; Doe
+    true
+    true
+is_related Jane Doe; Jane Roe
+    true
+    true
+is_related Li Doe; Li Roe
+    false
+    false
+is_related Ann Doe; Ann Roe
+    true
+    true
+is_related ...; ...
+    true
+    true
+is_related a-b; A-B
+    true
+    true
+is_related a-b; ab
+    false
+    false
+is_related ;\x20
+    false
+    false
+is_related root; Root
+    true
+    true
+is_related root; r-oot
+    false
+    false
+is_related Jane Doe;\x20
+    false
+    false
+is_related Zoe Yan Xia Doe Ann; Bob Eve Ann Roe Kim
+    true
+    true
+is_related Zoe Yan Xia Doe Ann; Bob Eve Roe Kim Ian
+    false
+    false
+is_related Zoe Yan Zoe Xia Zoe; Kim Zoe
+    true
+    true
+is_related Ann Lee Joann; Jo Leeann
+    false
+    false
+## logins of emails, and their keys
+# what is in front of the last @, but for what a forge or a user adds
+login jane@example.com
+    jane
+login_keys jane@example.com
+    wjane
+    tjane
+login Jane.Doe@example.com
+    Jane.Doe
+login_keys Jane.Doe@example.com
+    wdoe jane
+    tjanedoe
+login jane+lists+x@example.com
+    jane
+login_keys jane+lists+x@example.com
+    wjane
+    tjane
+login +jane@example.com
+    +jane
+login_keys +jane@example.com
+    wjane
+    tjane
+login ++x@y
+    +
+login_keys ++x@y
+login 12345+jane@users.noreply.github.com
+    jane
+login_keys 12345+jane@users.noreply.github.com
+    wjane
+    tjane
+login 12345+jane+x@USERS.noreply.github.com
+    jane
+login_keys 12345+jane+x@USERS.noreply.github.com
+    wjane
+    tjane
+login +jane@users.noreply.github.com
+    +jane
+login_keys +jane@users.noreply.github.com
+    wjane
+    tjane
+login 12345+jane@example.com
+    12345
+login_keys 12345+jane@example.com
+    w12345
+    t12345
+login 12345@users.noreply.github.com
+    12345
+login_keys 12345@users.noreply.github.com
+    w12345
+    t12345
+login a@b@example.com
+    a@b
+login_keys a@b@example.com
+login jane
+    jane
+login_keys jane
+    wjane
+    tjane
+login info@example.com
+    info
+login_keys info@example.com
+login No-Reply@example.com
+    No-Reply
+login_keys No-Reply@example.com
+login jd@example.com
+    jd
+login_keys jd@example.com
+login 12345+git@users.noreply.github.com
+    git
+login_keys 12345+git@users.noreply.github.com
+login @example.com
+    ""
+login_keys @example.com
+login
+    ""
+login_keys
+"#,
+    );
 }

@@ -1,44 +1,55 @@
+//! The cache of answers. Contracts say that it holds no wrong answer, but not which lines it keeps.
 use mailmap_grammar::hashing::hash_of;
 use mailmap_snapshot::cache::{AnswerCache, ROWS};
 use std::alloc::AllocError;
 
+const LINE: &[u8] = b"jane <JANE@x>\n";
+
+const ANSWER: &[u8] = b"Jane Doe <jane@x>\n";
+
 /// A line is cached when it is missed for the second time, and found from then on. A line that occurs once is only
-/// noted, and evicts no line of another slot.
+/// noted, and evicts no line of another slot. If as many lines are cached as there are rows, a few lose theirs to
+/// others.
 #[test]
-fn a_line_is_kept_when_it_comes_again(rt: HostRuntime) -> Result<(), AllocError> {
+fn lines_that_come_again_are_kept(rt: HostRuntime) -> Result<(), AllocError> {
     let mut cache = AnswerCache::new(rt.alloc())?;
-    let line = b"jane <JANE@x>\n".as_slice();
-    let answer = b"Jane Doe <jane@x>\n".as_slice();
-    let hash = hash_of(line);
-    assert!(rt; cache.get(hash, line) == None);
-    assert!(rt; !cache.note_miss(hash));
-    assert!(rt; cache.get(hash, line) == None);
-    assert!(rt; cache.note_miss(hash));
-    cache.insert(hash, line, answer);
-    for number in 0..100_u32 {
-        let other = format!(in rt.alloc(); "line {number}\n")?;
-        assert!(rt; !cache.note_miss(hash_of(other.as_bytes())));
-        assert!(rt; cache.get(hash, other.as_bytes()) == None);
-    }
-    assert!(rt; cache.get(hash, line) == Some(answer));
+    assert!(rt; is_kept_at_the_second_miss(&mut cache) && found(&mut cache) > ROWS - ROWS / 10);
     Ok(())
 }
 
-/// There are enough slots for most lines, however many are cached. A few lines lose theirs to others.
-#[test]
-fn most_lines_are_found_when_the_table_is_full(rt: HostRuntime) -> Result<(), AllocError> {
-    let mut cache = AnswerCache::new(rt.alloc())?;
-    for number in 0..ROWS {
-        let line = format!(in rt.alloc(); "line {number}\n")?;
-        cache.insert(hash_of(line.as_bytes()), line.as_bytes(), b"");
-    }
-    let mut found: usize = 0;
-    for number in 0..ROWS {
-        let line = format!(in rt.alloc(); "line {number}\n")?;
-        if let Some(_) = cache.get(hash_of(line.as_bytes()), line.as_bytes()) {
-            found = found.saturating_add(1);
+fn is_kept_at_the_second_miss(cache: &mut AnswerCache) -> bool {
+    let hash = hash_of(LINE);
+    let is_missed = cache.get(hash, LINE).is_none() && !cache.note_miss(hash);
+    let is_missed_again = cache.get(hash, LINE).is_none() && cache.note_miss(hash);
+    cache.insert(hash, LINE, ANSWER);
+    let are_noted = noted(cache) == 100;
+    is_missed && is_missed_again && are_noted && cache.get(hash, LINE) == Some(ANSWER)
+}
+
+/// How many of 100 lines, the bytes of numbers, are missed once.
+fn noted(cache: &mut AnswerCache) -> usize {
+    let mut count: usize = 0;
+    for number in 0..100_u32 {
+        let line = number.to_be_bytes();
+        let hash = hash_of(&line);
+        if !cache.note_miss(hash) && cache.get(hash, &line).is_none() {
+            count = count.saturating_add(1);
         }
     }
-    assert!(rt; found > ROWS - ROWS / 10);
-    Ok(())
+    count
+}
+
+/// How many lines, the bytes of numbers, are found after as many are cached as there are rows.
+fn found(cache: &mut AnswerCache) -> usize {
+    let mut count: usize = 0;
+    for number in 0..2 * ROWS {
+        let line = (number % ROWS).to_be_bytes();
+        let hash = hash_of(&line);
+        if number < ROWS {
+            cache.insert(hash, &line, b"");
+        } else if cache.get(hash, &line).is_some() {
+            count = count.saturating_add(1);
+        }
+    }
+    count
 }
