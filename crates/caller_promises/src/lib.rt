@@ -7,6 +7,7 @@
 //! - `rebuilding`: the entries of any snapshot rebuild it, and its text parses to an equal one.
 //! - `pruning`: the findings in a pruned mailmap; that it maps the same and no line of it can be dropped; and git's
 //!   answers.
+//! - `shelf`: files whose bytes contracts know, and which were replaced, for what the programs' contracts say of files.
 //! - `suggesting`: from the bytes of mailmaps and of contacts to the lines that are suggested, and to the answers with
 //!   these lines appended.
 #![tactic(auto)]
@@ -16,4 +17,5 @@ pub mod calls;
 pub mod listings;
 pub mod pruning;
 pub mod rebuilding;
+pub mod shelf;
 pub mod suggesting;

@@ -6,6 +6,7 @@ ghost use Rattle.gix_mailmap.specs.Entries.{Mapping};
 ghost use Rattle.gix_mailmap.specs.Findings.{first_read_otherwise};
 ghost use Rattle.gix_mailmap.specs.Folding.{Text};
 ghost use Rattle.gix_mailmap.specs.Lines.{mappings_of};
+ghost use Rattle.gix_mailmap.specs.Positions.{whole_lines};
 ghost use Rattle.gix_mailmap.specs.Semantics.{IsNormal};
 ghost use Rattle.mailmap_contacts.specs.Answers.{tally_of};
 ghost use Rattle.mailmap_contacts.specs.Contacts.{answer_to, contacts_from, tallied};
@@ -22,7 +23,7 @@ use gix_mailmap::counter::{ContactCounter, Contacts};
 use gix_mailmap::laws::{
     law_headline, law_line_feeds, law_no_zero, law_pieces, law_read_alike, law_remembered,
     law_selected, law_selected_together, law_suggested_text, law_suggestions, law_tallied,
-    law_text_after,
+    law_text_after, law_whole_lines,
 };
 use gix_mailmap::snapshot::Source;
 use gix_mailmap::suggestions::suggest;
@@ -57,6 +58,33 @@ pub fn suggest_and_answer(
         → HoldNoZero contacts.now
         → IfOk result (λ s. UnitesAppended (map (λ b. b.now) others.now) last.now s.text.items contacts.now) }
 {
+    law_whole_lines();
+    let counted = count(alloc, contacts)?;
+    let mailmaps = with_last(alloc, others, last)?;
+    let text = text_for(alloc, mailmaps.as_slice(), &counted)?;
+    let answers = answer_suggested(alloc, others, last, &text, contacts)?;
+    Ok(Suggested { text, answers })
+}
+
+/// Answers the contacts with a text appended to the last mailmap.
+///
+/// If the text is what is suggested for them, as this library makes it or `mailmap_verify --suggest` writes it, the answers
+/// are those that `suggest_and_answer` promises.
+pub fn answer_suggested(
+    alloc: Global,
+    others: &[&[u8]],
+    last: &[u8],
+    text: &[u8],
+    contacts: &[u8],
+) -> Result<Vec<Signature>, AllocError>
+    ensures answers { IfOk result (λ answers. map contact_in answers.items
+        ≡ map (λ t. answer_to (mappings_in (with_last (map (λ b. b.now) others.now) (last.now ++ text.now))) t.contact)
+        (contacts_in contacts.now)) }
+    ensures united { let mailmaps = with_last (map (λ b. b.now) others.now) last.now in
+        IsSuggested mailmaps (whole_lines contacts.now) text.now → first_read_otherwise mailmaps ≡ None
+        → HoldNoZero contacts.now
+        → OnOk result (UnitesAppended (map (λ b. b.now) others.now) last.now text.now contacts.now) }
+{
     law_line_feeds();
     law_no_zero();
     law_pieces();
@@ -65,11 +93,9 @@ pub fn suggest_and_answer(
     law_suggestions();
     law_tallied();
     law_text_after();
+    law_whole_lines();
     let counted = count(alloc, contacts)?;
-    let mailmaps = with_last(alloc, others, last)?;
-    let text = text_for(alloc, mailmaps.as_slice(), &counted)?;
-    let answers = answers_with(alloc, others, last, &text, &counted)?;
-    Ok(Suggested { text, answers })
+    answers_with(alloc, others, last, text, &counted)
 }
 
 /// Answers the contacts with an edited text appended to the last mailmap.

@@ -2,6 +2,7 @@
 //! its law in its contract.
 ghost use Rattle.std.specs.Prelude.{◌≡◌, ◌≢◌, ◌↔◌, ◌++◌, ◌∷◌, [], ℕ, List, None, Ok, Some, false, filter, map, not, option_to_list, true, Bool, Contains};
 ghost use Rattle.std.specs.List.{flat_map};
+ghost use Rattle.bstr.specs.Text.{lines_of};
 ghost use Rattle.mailmap_entries.specs.Entries.{Mapping};
 ghost use Rattle.mailmap_entries.specs.Folding.{Text};
 ghost use Rattle.mailmap_grammar.specs.Lines.{mappings_of, readings, reading, strict_reading, strict_readings, Closed, contact_in};
@@ -22,10 +23,11 @@ pub use equal::{
     law_equal_remarks,
 };
 
-/// A buffer's lines, including their line feeds, concatenate to the buffer. Parsed line by line, they have the same
-/// readings and entries as the whole.
+/// A buffer's lines, including their line feeds, are those of `bstr`, and concatenate to the buffer. Parsed line by line,
+/// they have the same readings and entries as the whole.
 pub fn law_whole_lines()
     ensures whole { (s : Text) → flat_map (λ t. t) (whole_lines s) ≡ s }
+    ensures lines { (s : Text) → lines_of s ≡ whole_lines s }
     ensures readings { (s : Text)
         → flat_map (λ l. option_to_list (reading l.position.line l.text)) (located_lines (s ∷ [])) ≡ readings s }
     ensures strict_readings { (s : Text)

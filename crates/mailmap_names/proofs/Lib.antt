@@ -1,3 +1,4 @@
+mod Ascii
 pub mod Emails
 pub mod Marks
 pub mod Orders

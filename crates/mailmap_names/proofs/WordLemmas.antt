@@ -29,13 +29,13 @@ without_asides_after-drop (suc n) [] = refl
 without_asides_after-drop (suc n) (c ∷ cs) = without_asides_after-drop n cs
 
 -- one step over a character, or over an aside
-without_asides-cons : (c : ℕ) (cs : List ℕ) → without_asides (c ∷ cs)
+pub without_asides-cons : (c : ℕ) (cs : List ℕ) → without_asides (c ∷ cs)
     ≡ (if aside_len c cs == 0 then c else 32) ∷ without_asides (drop (aside_len c cs) cs)
 unfolding without_asides_after
 without_asides-cons c cs =
     ap (λ rest. (if aside_len c cs == 0 then c else 32) ∷ rest) (without_asides_after-drop (aside_len c cs) cs)
 
-without_asides-nil : without_asides [] ≡ []
+pub without_asides-nil : without_asides [] ≡ []
 unfolding without_asides_after
 without_asides-nil = refl
 
@@ -88,16 +88,16 @@ module _ (opening closing : ℕ) (cs : List ℕ) where
   len_to_closing-other end found other = rw (found, differs (get_or cs end 0) closing other)
 
 -- ` via ` begins here, or later; or the text is at its end
-before_via-here : (cs : List ℕ) → begins_with_via cs ≡ true → before_via cs ≡ []
+pub before_via-here : (cs : List ℕ) → begins_with_via cs ≡ true → before_via cs ≡ []
 unfolding before_via
 before_via-here [] here = refl
 before_via-here (c ∷ cs) here = ap (λ b. cond b [] (c ∷ before_via cs)) here
 
-before_via-later : (c : ℕ) (cs : List ℕ) → begins_with_via (c ∷ cs) ≡ false → before_via (c ∷ cs) ≡ c ∷ before_via cs
+pub before_via-later : (c : ℕ) (cs : List ℕ) → begins_with_via (c ∷ cs) ≡ false → before_via (c ∷ cs) ≡ c ∷ before_via cs
 unfolding before_via
 before_via-later c cs later = ap (λ b. cond b [] (c ∷ before_via cs)) later
 
-before_via-nil : before_via [] ≡ []
+pub before_via-nil : before_via [] ≡ []
 unfolding before_via
 before_via-nil = refl
 

@@ -1,8 +1,9 @@
 -- What contracts of private functions cite: words as strings, and texts in order.
-use Rattle.std.specs.Prelude.{ℕ, Bool, if◌then◌else◌, nat_le, nat_lt, List, ◌∷◌, String, filter, length, chars}
-use Rattle.std.specs.Prelude.{string_bytes}
+use Rattle.std.specs.Prelude.{ℕ, ◌==◌, Bool, ◌&&◌, ◌||◌, not, if◌then◌else◌, nat_le, nat_lt, List, ◌∷◌, String}
+use Rattle.std.specs.Prelude.{filter, length, chars, string_bytes}
+use Rattle.std.specs.Char.{is_ascii, is_ascii_alphanumeric}
 use Rattle.std.specs.Global.{Global, Vec}
-use Rattle.std.specs.List.{flat_map}
+use Rattle.std.specs.List.{flat_map, slice_split}
 use Rattle.std.specs.List.Sorted.{IsSortedByKey}
 use Rattle.mailmap_entries.specs.Folding.{Text, text_cmp}
 
@@ -22,3 +23,11 @@ spaced texts = flat_map (λ t. 32 ∷ t) texts
 -- no text is smaller than the one before it
 abbrev pub AreSorted : List (Vec ℕ) → Type 0
 AreSorted texts = IsSortedByKey (λ t. t.items) text_cmp texts
+
+-- a byte of ASCII that opens no aside
+abbrev pub is_plain : ℕ → Bool
+is_plain b = is_ascii b && not (b == 40 || b == 91 || b == 34)
+
+-- the longest runs of letters and digits of ASCII
+abbrev pub ascii_runs : Text → List Text
+ascii_runs text = filter (λ run. not (length run == 0)) (slice_split (λ b. not (is_ascii_alphanumeric b)) text)

@@ -56,7 +56,7 @@ pub(crate) fn first_words_of(alloc: Global, words: &[String]) -> Result<Vec<Vec<
 pub(crate) fn key(alloc: Global, kind: u8, text: &[u8]) -> Result<Vec<u8>, AllocError>
     ensures { IfOk result (λ found. found.items ≡ kind ∷ text.now) }
 {
-    let mut key = Vec::new(alloc);
+    let mut key = Vec::with_capacity(alloc, text.len().saturating_add(1))?;
     key.push(kind)?;
     key.extend_from_slice(text)?;
     Ok(key)

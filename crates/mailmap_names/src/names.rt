@@ -13,14 +13,12 @@ use crate::logins::{is_generic, is_same, login};
 use crate::words::words_of;
 use std::alloc::{AllocError, Global};
 
-/// A name that is read once.
+/// A name that is read once, to be compared with others.
 #[derive(Drop)]
 pub struct Name<'a> {
     pub text: &'a [u8],
-    words: Vec<String>,
     keys: Vec<Vec<u8>>,
     telling: Vec<Vec<u8>>,
-    ghost words_read: { characters words.items ≡ words_spec.words text.now },
     ghost keys_read: { texts keys.items ≡ spec.keys text.now },
     ghost telling_read: { texts telling.items ≡ ascending (spec.telling_words text.now) },
     ghost telling_sorted: { AreSorted telling.items },
@@ -37,40 +35,9 @@ impl<'a> Name<'a> {
         let telling = telling_words_of(alloc, &words)?;
         Ok(Name {
             text,
-            words,
             keys,
             telling,
         })
-    }
-
-    /// The keys, two or none: `wdoe jane` and `tjaneqdoe` of `Jane Q. Doe`.
-    pub fn keys(&self) -> &[Vec<u8>]
-        ensures { texts result.now ≡ spec.keys self.now.text.now }
-    {
-        self.keys.as_slice()
-    }
-
-    /// The keys.
-    pub fn into_keys(self) -> Vec<Vec<u8>>
-        ensures { texts result.items ≡ spec.keys self.entry.text.now }
-    {
-        let Name { keys, .. } = self;
-        keys
-    }
-
-    /// What alike names have in common with this one: three texts at most, and none if it is empty.
-    ///
-    /// Of `Jane Q. Doe` these are `njane q. doe` and the keys.
-    pub fn marks(&self, alloc: Global) -> Result<Vec<Vec<u8>>, AllocError>
-        ensures { IfOk result (λ found. texts found.items ≡ spec.marks self.now.text.now) }
-    {
-        let mut marks = Vec::new(alloc);
-        if self.text.is_empty() {
-            return Ok(marks);
-        }
-        marks.push(name_mark(alloc, self.text)?)?;
-        push_copies(alloc, &mut marks, &self.keys)?;
-        Ok(marks)
     }
 
     /// Whether two names are alike, or have a word of at least three characters in common.
@@ -102,15 +69,37 @@ impl<'a> Name<'a> {
     {
         self.telling.binary_search(word).is_ok()
     }
+}
 
-    /// The two keys that the first word alone would make, if there are two or more words: `wjane` and `tjane` for
-    /// `Jane Doe`.
-    #[tactic(auto, unfolding(crate::specs::Keys::first_words))]
-    pub fn first_words(&self, alloc: Global) -> Result<Vec<Vec<u8>>, AllocError>
-        ensures { IfOk result (λ found. texts found.items ≡ spec.first_words self.now.text.now) }
-    {
-        first_words_of(alloc, &self.words)
+/// The keys of a name, two or none: `wdoe jane` and `tjaneqdoe` of `Jane Q. Doe`.
+#[tactic(auto, unfolding(crate::specs::Keys::keys))]
+pub fn name_keys(alloc: Global, name: &[u8]) -> Result<Vec<Vec<u8>>, AllocError>
+    ensures { IfOk result (λ found. texts found.items ≡ spec.keys name.now) }
+{
+    keys_of(alloc, &words_of(alloc, name)?)
+}
+
+/// What alike names have in common with this one: three texts at most, and none if it is empty.
+///
+/// Of `Jane Q. Doe` these are `njane q. doe` and the keys.
+pub fn name_marks(alloc: Global, name: &[u8]) -> Result<Vec<Vec<u8>>, AllocError>
+    ensures { IfOk result (λ found. texts found.items ≡ spec.marks name.now) }
+{
+    if name.is_empty() {
+        return Ok(Vec::new(alloc));
     }
+    let mut marks = name_keys(alloc, name)?;
+    marks.insert(0, name_mark(alloc, name)?)?;
+    Ok(marks)
+}
+
+/// The two keys that the first word of a name alone would make, if there are two or more words: `wjane` and `tjane` for
+/// `Jane Doe`.
+#[tactic(auto, unfolding(crate::specs::Keys::first_words))]
+pub fn first_words(alloc: Global, name: &[u8]) -> Result<Vec<Vec<u8>>, AllocError>
+    ensures { IfOk result (λ found. texts found.items ≡ spec.first_words name.now) }
+{
+    first_words_of(alloc, &words_of(alloc, name)?)
 }
 
 /// The mark of the names that are equal but for case.
@@ -120,15 +109,6 @@ fn name_mark(alloc: Global, name: &[u8]) -> Result<Vec<u8>, AllocError>
     let mut mark = key(alloc, b'n', name)?;
     mark.make_ascii_lowercase();
     Ok(mark)
-}
-
-fn push_copies(alloc: Global, texts: &mut Vec<Vec<u8>>, more: &[Vec<u8>]) -> Result<(), AllocError>
-    ensures { OnOk result (spec.texts texts.new.items ≡ spec.texts texts.old.items ++ spec.texts more.now) }
-{
-    for text in more {
-        texts.push(Vec::from_slice(alloc, text)?)?;
-    }
-    Ok(())
 }
 
 fn has_common(texts: &[Vec<u8>], others: &[Vec<u8>]) -> bool

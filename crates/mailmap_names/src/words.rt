@@ -1,6 +1,8 @@
 //! The words of a name.
-ghost use Rattle.std.specs.Prelude.{◌≡◌, ◌≤◌, length, map, chars, string_bytes, IfOk};
+ghost use Rattle.std.specs.Prelude.{◌≡◌, ◌≤◌, length, map, chars, string_bytes, true, IfOk};
+ghost use Rattle.std.specs.List.{list_all};
 ghost use Rattle.caseless.specs.Caseless.{default_case_fold};
+ghost use Rattle.mailmap_names.specs.Private.{ascii_runs, is_plain};
 ghost use Rattle.mailmap_names.specs.Words.{aside_len, len_to_closing, without_asides, begins_with_via, before_via};
 ghost use Rattle.mailmap_names.specs.Words.{is_letter, is_mark, letter, letters, normalized, plain_words, runs};
 ghost use Rattle.mailmap_names.specs.Words.{text_words, words};
@@ -17,10 +19,83 @@ use unicode_normalization::to_nfkd;
 pub fn words_of(alloc: Global, name: &[u8]) -> Result<Vec<String>, AllocError>
     ensures { IfOk result (λ ws. map (λ w. chars (string_bytes w)) ws.items ≡ words name.now) }
 {
+    if is_plain(name) {
+        return ascii_words(alloc, name);
+    }
     match str::from_utf8(name) {
         Ok(text) => text_words(alloc, &characters(alloc, text)?),
         Err(_) => Ok(Vec::new(alloc)),
     }
+}
+
+/// Whether a name is ASCII, and nothing in it may begin an aside.
+fn is_plain(name: &[u8]) -> bool
+    ensures { result ≡ list_all is_plain name.now }
+{
+    name.iter().all(|byte| byte.is_ascii() && !matches!(*byte, b'(' | b'[' | b'"'))
+}
+
+/// The words of such a name, without Unicode's tables: most names are so.
+fn ascii_words(alloc: Global, name: &[u8]) -> Result<Vec<String>, AllocError>
+    requires { list_all is_plain name.now ≡ true }
+    ensures { IfOk result (λ ws. map (λ w. chars (string_bytes w)) ws.items ≡ words name.now) }
+{
+    let found = plain_ascii_words(alloc, before_ascii_via(name))?;
+    if found.is_empty() {
+        plain_ascii_words(alloc, name)
+    } else {
+        Ok(found)
+    }
+}
+
+fn before_ascii_via(text: &[u8]) -> &[u8]
+    ensures { result.now ≡ before_via text.now }
+{
+    for i in 0..text.len() {
+        if begins_with_ascii_via(&text[i..]) {
+            return &text[..i];
+        }
+    }
+    text
+}
+
+fn begins_with_ascii_via(text: &[u8]) -> bool
+    ensures { result ≡ begins_with_via text.now }
+{
+    text[..text.len().min(5)].eq_ignore_ascii_case(b" via ")
+}
+
+fn plain_ascii_words(alloc: Global, text: &[u8]) -> Result<Vec<String>, AllocError>
+    ensures { list_all is_plain text.now ≡ true
+        → IfOk result (λ ws. map (λ w. chars (string_bytes w)) ws.items ≡ plain_words text.now) }
+{
+    let lower = text.to_ascii_lowercase(alloc)?;
+    ascii_texts(alloc, &ascii_runs(alloc, &lower)?)
+}
+
+fn ascii_texts(alloc: Global, runs: &[&[u8]]) -> Result<Vec<String>, AllocError>
+    ensures { IfOk result (λ ws. map (λ w. chars (string_bytes w)) ws.items ≡ map (λ run. run.now) runs.now) }
+{
+    let mut found = Vec::with_capacity(alloc, runs.len())?;
+    for run in runs {
+        found.push(ascii_text(alloc, run)?)?;
+    }
+    Ok(found)
+}
+
+/// The longest runs of letters and digits of ASCII.
+fn ascii_runs<'a>(alloc: Global, text: &'a [u8]) -> Result<Vec<&'a [u8]>, AllocError>
+    ensures { IfOk result (λ found. map (λ run. run.now) found.items ≡ ascii_runs text.now) }
+{
+    text.split(|byte| !byte.is_ascii_alphanumeric())
+        .filter(|run| !run.is_empty())
+        .collect(alloc)
+}
+
+fn ascii_text(alloc: Global, text: &[u8]) -> Result<String, AllocError>
+    ensures { IfOk result (λ w. chars (string_bytes w) ≡ text.now) }
+{
+    text.iter().map(|byte| char::from(*byte)).collect(alloc)
 }
 
 fn characters(alloc: Global, text: &str) -> Result<Vec<char>, AllocError>

@@ -1,7 +1,6 @@
 -- The first login that links answers, from those of the contacts that first get them.
 use Rattle.std.proofs.Common.{◌≡◌, ◌∙◌, ◌+◌, ◌<◌, ◌≤◌, ◌||◌, ◌&&◌, ◌==◌, ◌++◌, ◌⊎◌, ℕ, zero, suc, Bool, true, false, cond, Bor, List, [], ◌∷◌, Option, None, Some, add-one, ap, arith, bytes_eq, filter, flat_map, fold, get_or, if◌then◌else◌, inl, inr, length, map, not, refl, set, slice_get, subst, sym, take, take_all, true≢false, ⊎_elim}
 use Rattle.std.specs.Prelude.{option_to_list}
-use Rattle.std.specs.Global.{Vec}
 use Rattle.std.specs.List.{AllByRecursion, list_any}
 use Rattle.std.specs.Option.{option_copied, option_or}
 use Rattle.std.proofs.lemmas.Bool.{cases_eq, cases_lt, eq-eqb, eqb-true, ne_eqb, false_from_ne_true}
@@ -18,15 +17,16 @@ use Rattle.mailmap_contacts.specs.Answers.{tally_of}
 use Rattle.mailmap_contacts.specs.Contacts.{Contact, Tally, answer_to, answered, same_contact, tallied}
 use Rattle.mailmap_entries.specs.Folding.{Text}
 use Rattle.mailmap_entries.proofs.Parts.{all_weaker, filter-map, list_any-map}
-use Rattle.mailmap_names.specs.Keys.{is_among, texts}
+use Rattle.mailmap_names.specs.Keys.{is_among}
 use Rattle.mailmap_names.specs.Logins.{login}
 use Rattle.mailmap_suggestions.specs.FirstLogins.{is_missing, login_in, own_login, with_login}
 use Rattle.mailmap_suggestions.specs.Forms.{Histories}
 use Rattle.mailmap_suggestions.specs.GroupEntries.{contacts}
 use Rattle.mailmap_suggestions.specs.Links.{all_name_keys, another_has, answered_by, answers, email_keys, is_first_name, linking_logins, name_keys, participants}
-use Rattle.mailmap_suggestions.specs.LinkViews.{AreLoginKeys, AreMembers, AreWhole, IsFirstOf, answer_in, contact_in, is_name_in}
+use Rattle.mailmap_suggestions.specs.LinkViews.{AreLoginKeys, AreMembers, AreWhole, IsFirstOf, answer_in, contact_in, is_name_in, mark_text, mark_texts}
 use Rattle.mailmap_suggestions.specs.Suggestions.{first_or_empty}
 use Rattle.mailmap_suggestions.specs.declared.links.LoginKeys.{LoginKeys}
+use Rattle.mailmap_suggestions.specs.declared.marks.Mark.{Mark}
 use Rattle.mailmap_suggestions.specs.declared.members.Member.{Member}
 use Rattle.mailmap_suggestions.proofs.Classed.{first_at, first_below, first_is, first_of}
 use Rattle.mailmap_suggestions.proofs.Distinct.{at, each, same_bytes, ◌∈◌}
@@ -70,34 +70,34 @@ another_kept p keys_of (b ∷ others) a key =
     ∙ shared_test (p key) (not (same_contact b a) && is_among (keys_of b) key) (another_has keys_of others a key)
 
 -- a name of another answer, that is no first name
-name_is : (shared : List Text) (h : Histories) (ts : List Tally) (found : LoginKeys) → AreLoginKeys shared h ts found → (a : Contact) (key : Vec ℕ)
-    → is_name_in found a key.items ≡ another_has (name_keys h ts) (participants shared h ts) a key.items
+name_is : (shared : List Text) (h : Histories) (ts : List Tally) (found : LoginKeys) → AreLoginKeys shared h ts found → (a : Contact) (key : Mark)
+    → is_name_in found a key.text.items ≡ another_has (name_keys h ts) (participants shared h ts) a key.text.items
 name_is shared h ts found are a key =
-    (λ i. not (are.first_names key.items i) && are.names key.items a i)
-    ∙ sym (another_kept (λ k. not (is_first_name h ts k)) (all_name_keys h ts) (participants shared h ts) a key.items)
+    (λ i. not (are.first_names key.text.items i) && are.names key.text.items a i)
+    ∙ sym (another_kept (λ k. not (is_first_name h ts k)) (all_name_keys h ts) (participants shared h ts) a key.text.items)
 
-any_name : (shared : List Text) (h : Histories) (ts : List Tally) (found : LoginKeys) → AreLoginKeys shared h ts found → (a : Contact) (ks : List (Vec ℕ))
-    → list_any (is_name_in found a) (texts ks) ≡ list_any (another_has (name_keys h ts) (participants shared h ts) a) (texts ks)
+any_name : (shared : List Text) (h : Histories) (ts : List Tally) (found : LoginKeys) → AreLoginKeys shared h ts found → (a : Contact) (ks : List Mark)
+    → list_any (is_name_in found a) (mark_texts ks) ≡ list_any (another_has (name_keys h ts) (participants shared h ts) a) (mark_texts ks)
 any_name shared h ts found are a [] = refl
 any_name shared h ts found are a (k ∷ ks) = λ i. name_is shared h ts found are a k i || any_name shared h ts found are a ks i
 
 -- ---- the keys of an email, as the code goes over them
 
-pub keys_more : (p : Text → Bool) (ks : List (Vec ℕ)) (k : ℕ) (key : Vec ℕ) → k < length ks → key ≡ get_or ks k key → list_any p (texts (take k ks)) ≡ false → p key.items ≡ false
-    → list_any p (texts (take (k + 1) ks)) ≡ false
+pub keys_more : (p : Text → Bool) (ks : List Mark) (k : ℕ) (key : Mark) → k < length ks → key ≡ get_or ks k key → list_any p (mark_texts (take k ks)) ≡ false → p key.text.items ≡ false
+    → list_any p (mark_texts (take (k + 1) ks)) ≡ false
 keys_more p ks k key lt key_is none fails =
-    let is : p (get_or ks k key).items ≡ false = ap (λ (v : Vec ℕ). p v.items) (sym key_is) ∙ fails in
-    ap (list_any p) (map_more (λ (v : Vec ℕ). v.items) ks k key lt)
-    ∙ list_any-append p (texts (take k ks)) ((get_or ks k key).items ∷ [])
+    let is : p (get_or ks k key).text.items ≡ false = ap (λ (v : Mark). p v.text.items) (sym key_is) ∙ fails in
+    ap (list_any p) (map_more mark_text ks k key lt)
+    ∙ list_any-append p (mark_texts (take k ks)) ((get_or ks k key).text.items ∷ [])
     ∙ (λ i. none i || (is i || false))
 
-pub key_found : (p : Text → Bool) (ks : List (Vec ℕ)) (k : ℕ) (key : Vec ℕ) → k < length ks → key ≡ get_or ks k key → p key.items ≡ true → list_any p (texts ks) ≡ true
+pub key_found : (p : Text → Bool) (ks : List Mark) (k : ℕ) (key : Mark) → k < length ks → key ≡ get_or ks k key → p key.text.items ≡ true → list_any p (mark_texts ks) ≡ true
 key_found p ks k key lt key_is holds =
-    list_any-map p (λ (v : Vec ℕ). v.items) ks ∙ list_any_at (λ (v : Vec ℕ). p v.items) ks k key lt (ap (λ (v : Vec ℕ). p v.items) (sym key_is) ∙ holds)
+    list_any-map p mark_text ks ∙ list_any_at (λ (v : Mark). p v.text.items) ks k key lt (ap (λ (v : Mark). p v.text.items) (sym key_is) ∙ holds)
 
 -- the login, once all keys were tried
-pub login_by : (shared : List Text) (h : Histories) (ts : List Tally) (found : LoginKeys) → AreLoginKeys shared h ts found → (a : Contact) (email : Text) (ks : List (Vec ℕ)) (b : Bool)
-    → texts ks ≡ email_keys shared email → list_any (is_name_in found a) (texts ks) ≡ b → (if b then Some (login email) else None) ≡ login_in shared h ts a email
+pub login_by : (shared : List Text) (h : Histories) (ts : List Tally) (found : LoginKeys) → AreLoginKeys shared h ts found → (a : Contact) (email : Text) (ks : List Mark) (b : Bool)
+    → mark_texts ks ≡ email_keys shared email → list_any (is_name_in found a) (mark_texts ks) ≡ b → (if b then Some (login email) else None) ≡ login_in shared h ts a email
 login_by shared h ts found are a email ks b is any =
     ap (λ b. if b then Some (login email) else None)
     (sym any ∙ any_name shared h ts found are a ks ∙ ap (list_any (another_has (name_keys h ts) (participants shared h ts) a)) is)

@@ -240,12 +240,12 @@ moved : (links sorted : List (Text × ℕ)) (f : ℕ → ℕ) → IsPermutation 
 moved links sorted f is agrees mark i j a b =
     agrees mark i j (Contains-permutation links sorted (mark, i) is a) (Contains-permutation links sorted (mark, j) is b)
 
-sorted_links : (links : List Link) → IsSortedBy (λ a b. is_lt (text_cmp a.mark.items b.mark.items)) links → IsSortedBy before (links_of links)
+sorted_links : (links : List Link) → IsSortedBy (λ a b. is_lt (text_cmp a.mark.text.items b.mark.text.items)) links → IsSortedBy before (links_of links)
 sorted_links [] up = λ k d le lt. absurd (omega (arith, lt))
 sorted_links (l ∷ ls) up = sorted_mapped link_of (λ (x : Text × ℕ). x.0) text_cmp (l ∷ ls) l up
 
 pub are_classes : (links sorted : List Link) (start p q : List ℕ) → ((i : ℕ) → i < length start → IsRoot start i) → IsPermutation links sorted
-    → IsSortedBy (λ a b. is_lt (text_cmp a.mark.items b.mark.items)) sorted → IsJoined start p (links_of sorted) (length sorted) → length p ≡ length start
+    → IsSortedBy (λ a b. is_lt (text_cmp a.mark.text.items b.mark.text.items)) sorted → IsJoined start p (links_of sorted) (length sorted) → length p ≡ length start
     → KeepsClasses p q → ((i : ℕ) → i < length q → IsRoot q (get_or q i 0)) → AreClasses (length start) (links_of links) q
 are_classes links sorted start p q alone is up joined p_is keeps flat =
     let perm = IsPermutation-map link_of links sorted is in

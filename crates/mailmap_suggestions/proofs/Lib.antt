@@ -15,6 +15,7 @@ pub mod Appended
 pub mod Changed
 pub mod Forms
 mod ListTests
+mod FirstBytes
 mod MemberMarks
 mod LoginLinks
 mod NameLinks

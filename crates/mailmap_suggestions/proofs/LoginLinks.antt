@@ -16,7 +16,7 @@ use Rattle.mailmap_names.specs.Keys.{first_words, is_among, keys}
 use Rattle.mailmap_suggestions.specs.Forms.{Histories}
 use Rattle.mailmap_suggestions.specs.Links.{all_name_keys, another_has, answered_by, answers, email_keys, emails_of, first_keys, is_first_name}
 use Rattle.mailmap_suggestions.specs.Links.{login_marks, mail_keys, name_keys, names_of, participants, takes_part}
-use Rattle.mailmap_suggestions.specs.LinkViews.{AreLinksOf, AreLoginKeys, AreMembers, HoldersOf, all_login_links_of, answer_in, contact_in}
+use Rattle.mailmap_suggestions.specs.LinkViews.{AreLinksOf, AreLoginKeys, AreMembers, HoldersOf, all_login_links_of, answer_in, contact_in, has_own}
 use Rattle.mailmap_suggestions.specs.LinkViews.{holder_of, is_another, is_login_in, is_name_in, is_several, links_to, login_links_of, pairs_by, with_answer}
 use Rattle.mailmap_suggestions.specs.declared.holders.Holder.{Holder}
 use Rattle.mailmap_suggestions.specs.declared.holders.Holders.{Holders}
@@ -72,7 +72,7 @@ several_is has xs (Some holder) is =
     (all_of (λ a. (has a && list_any (λ b. not (same_contact b a) && has b) xs) ≡ (has a && (not holder.is_one || not (same_contact first a)))) (λ a. ap (λ t. has a && t) (sym (is a))) xs))
   where
     first : Contact
-    first = (tally_of holder.first).contact
+    first = (tally_of holder.first.now).contact
 
     swapped : (s t : Bool) → (s && t) ≡ (t && s)
     swapped s t = grind arith
@@ -103,7 +103,7 @@ module _ (h : Histories) (ts : List Tally) (ms : List Member) (are : AreMembers 
     any_pair_by : (m : Member) (key : Text) (a : Contact) → list_any (λ p. bytes_eq p.0 key && not (same_contact p.1 a)) (pairs_by keys_of m)
         ≡ (is_among (parts_of h ts ms are part m) key && not (same_contact (answer_in m) a))
     any_pair_by m key a =
-        ap (list_any (λ (p : Text × Contact). bytes_eq p.0 key && not (same_contact p.1 a))) (by m.is_first)
+        ap (list_any (λ (p : Text × Contact). bytes_eq p.0 key && not (same_contact p.1 a))) (by (has_own m))
         ∙ list_any-map (λ (p : Text × Contact). bytes_eq p.0 key && not (same_contact p.1 a)) (λ text. (text, answer_in m)) (parts_of h ts ms are part m)
         ∙ and_any (λ t. bytes_eq t key) (not (same_contact (answer_in m) a)) (parts_of h ts ms are part m)
       where
@@ -287,7 +287,7 @@ module _ (h : Histories) (ts : List Tally) (ms : List Member) (are : AreMembers 
       one_contact m c = sym (map-append (λ mark. (mark, m.first)) (filter (is_login_in found (answer_in m)) (keys c.name)) (filter (is_name_in found (answer_in m)) (email_keys shared c.email)))
 
       links_is : (m : Member) → all_login_links_of shared found m ≡ links_by h ts ms are login_part m
-      links_is m = (λ i. (if m.is_first then one_contact m (answer_in m) i else []) ++ one_contact m (contact_in m).contact i) ∙ by m.is_first
+      links_is m = (λ i. (if has_own m then one_contact m (answer_in m) i else []) ++ one_contact m (contact_in m).contact i) ∙ by (has_own m)
         where
           by : (f : Bool) → ((if f then links_to m.first (login_part (answer_in m) (answer_in m)) else []) ++ links_to m.first (login_part (answer_in m) (contact_in m).contact))
               ≡ links_to m.first ((if f then login_part (answer_in m) (answer_in m) else []) ++ login_part (answer_in m) (contact_in m).contact)

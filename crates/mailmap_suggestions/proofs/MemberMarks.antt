@@ -1,8 +1,8 @@
 -- What the contacts with an answer have, one by one, is what the answer has.
-use Rattle.std.proofs.Common.{◌≡◌, ◌∙◌, ◌&&◌, ◌||◌, ◌==◌, ◌++◌, ℕ, Bool, true, false, true≢false, List, [], ◌∷◌, Some, ap, arith, bytes_eq, filter, flat_map, get_or, if◌then◌else◌, map, refl, subst, sym, ⊎_elim}
+use Rattle.std.proofs.Common.{◌≡◌, ◌∙◌, ◌&&◌, ◌||◌, ◌==◌, ◌++◌, ℕ, Bool, true, false, not, true≢false, List, [], ◌∷◌, Some, ap, arith, bytes_eq, filter, flat_map, get_or, if◌then◌else◌, map, refl, subst, sym, ⊎_elim}
 use Rattle.std.specs.Prelude.{position}
 use Rattle.std.specs.List.{AllByRecursion, list_any}
-use Rattle.std.proofs.lemmas.Bool.{and_from, cases_Bool, eq-eqb, ne_eqb}
+use Rattle.std.proofs.lemmas.Bool.{and_from, and_parts, cases_Bool, eq-eqb, ne_eqb}
 use Rattle.std.proofs.lemmas.List.Elements.{All-from_recursion}
 use Rattle.std.proofs.lemmas.List.Folds.{list_any_at}
 use Rattle.std.proofs.lemmas.List.Quantifiers.{position-Some}
@@ -16,10 +16,10 @@ use Rattle.mailmap_names.specs.Keys.{is_among}
 use Rattle.mailmap_suggestions.specs.Forms.{Histories}
 use Rattle.mailmap_suggestions.specs.GroupEntries.{contacts}
 use Rattle.mailmap_suggestions.specs.Links.{answered_by}
-use Rattle.mailmap_suggestions.specs.LinkViews.{AreLinksOf, AreMembers, IsFirstOf, answer_in, contact_in, links_to}
+use Rattle.mailmap_suggestions.specs.LinkViews.{AreLinksOf, AreMembers, IsFirstOf, answer_in, contact_in, has_own, links_to}
 use Rattle.mailmap_suggestions.specs.declared.members.Member.{Member}
 use Rattle.mailmap_suggestions.proofs.Distinct.{all_joined, all_of, each, from_filter}
-use Rattle.mailmap_suggestions.proofs.ListTests.{and_any, any_alike, any_and, any_filter, any_in, any_joined}
+use Rattle.mailmap_suggestions.proofs.ListTests.{and_any, any_alike, any_and, any_filter, any_in, any_joined, any_of}
 
 abbrev pub is_same : Member → Member → Bool
 is_same b m = same_contact (answer_in b) (answer_in m)
@@ -68,25 +68,25 @@ module _ (h : Histories) (ts : List Tally) (ms : List Member) (are : AreMembers 
           (ap (λ (t : Tally). t.contact) both.0, by ms both.1)
 
   module _ (part : Contact → Contact → List Text) where
-    -- what a contact has of an answer; the first contact with it also what the answer itself has
+    -- what a contact has of an answer; the first contact with it, if it is another, also what the answer itself has
     abbrev pub parts_of : Member → List Text
-    parts_of m = (if m.is_first then part (answer_in m) (answer_in m) else []) ++ part (answer_in m) (contact_in m).contact
+    parts_of m = (if has_own m then part (answer_in m) (answer_in m) else []) ++ part (answer_in m) (contact_in m).contact
 
     abbrev pub all_parts : Contact → List Text
     all_parts a = flat_map (part a) (a ∷ answered_by h ts a)
 
-    one_member : (a b c : Contact) (mark : Text) (is_first same : Bool) → same_contact b a ≡ same
-        → (same && is_among ((if is_first then part b b else []) ++ part b c) mark)
-        ≡ (((same && is_first) && is_among (part a a) mark) || (same && is_among (part a c) mark))
-    one_member a b c mark is_first true is =
-        ap (λ x. is_among ((if is_first then part x x else []) ++ part x c) mark) (same_is b a is)
-        ∙ list_any-append (λ t. bytes_eq t mark) (if is_first then part a a else []) (part a c)
-        ∙ ap (λ b. b || is_among (part a c) mark) (by is_first)
+    one_member : (a b c : Contact) (mark : Text) (own same : Bool) → same_contact b a ≡ same
+        → (same && is_among ((if own then part b b else []) ++ part b c) mark)
+        ≡ (((same && own) && is_among (part a a) mark) || (same && is_among (part a c) mark))
+    one_member a b c mark own true is =
+        ap (λ x. is_among ((if own then part x x else []) ++ part x c) mark) (same_is b a is)
+        ∙ list_any-append (λ t. bytes_eq t mark) (if own then part a a else []) (part a c)
+        ∙ ap (λ b. b || is_among (part a c) mark) (by own)
       where
         by : (f : Bool) → is_among (if f then part a a else []) mark ≡ ((true && f) && is_among (part a a) mark)
         by true = refl
         by false = refl
-    one_member a b c mark is_first false is = refl
+    one_member a b c mark own false is = refl
 
     of_contacts : (m : Member) (mark : Text)
         → list_any (λ b. is_same b m && is_among (part (answer_in m) (contact_in b).contact) mark) ms
@@ -103,19 +103,72 @@ module _ (h : Histories) (ts : List Tally) (ms : List Member) (are : AreMembers 
         ∙ sym (any_filter has gets (contacts ts))
         ∙ sym (any_joined (λ t. bytes_eq t mark) (part a) (answered_by h ts a))
 
+    -- the first contact with an answer has what the answer has: as its own, or since it is the answer
+    has_answer : (mark : Text) (m : Member) → IsFirstOf ms m → is_among (part (answer_in m) (answer_in m)) mark ≡ true
+        → list_any (λ b. is_same b m && is_among (parts_of b) mark) ms ≡ true
+    has_answer mark m first has =
+        let found = any_of (λ b. is_same b m && b.is_first) ms (has_first m first) in
+        let b : Member = found.0 in
+        let both = and_parts (is_same b m) b.is_first found.2 in
+        let mine : is_among (part (answer_in b) (answer_in b)) mark ≡ true = ap (λ x. is_among (part x x) mark) (same_is (answer_in b) (answer_in m) both.0) ∙ has in
+        any_in (λ b. is_same b m && is_among (parts_of b) mark) ms b found.1
+        (and_from (is_same b m) (is_among (parts_of b) mark) both.0 (either b both.1 mine))
+      where
+        last : (t : Bool) → (t || true) ≡ true
+        last true = refl
+        last false = refl
+
+        either : (b : Member) → b.is_first ≡ true → is_among (part (answer_in b) (answer_in b)) mark ≡ true → is_among (parts_of b) mark ≡ true
+        either b is_first mine = by (same_contact (answer_in b) (contact_in b).contact) refl
+          where
+            own : Text → Bool
+            own t = bytes_eq t mark
+
+            theirs : List Text
+            theirs = part (answer_in b) (contact_in b).contact
+
+            by : (s : Bool) → same_contact (answer_in b) (contact_in b).contact ≡ s → is_among (parts_of b) mark ≡ true
+            by true is =
+                list_any-append own (if has_own b then part (answer_in b) (answer_in b) else []) theirs
+                ∙ ap (λ t. list_any own (if has_own b then part (answer_in b) (answer_in b) else []) || t)
+                (ap (λ x. is_among (part (answer_in b) x) mark) (sym (same_is (answer_in b) (contact_in b).contact is)) ∙ mine)
+                ∙ last (list_any own (if has_own b then part (answer_in b) (answer_in b) else []))
+            by false is =
+                ap (λ f. is_among ((if f then part (answer_in b) (answer_in b) else []) ++ theirs) mark) (λ i. is_first i && not (is i))
+                ∙ list_any-append own (part (answer_in b) (answer_in b)) theirs ∙ ap (λ t. t || list_any own theirs) mine
+
     parts_at : (mark : Text) (m : Member) → IsFirstOf ms m
         → is_among (all_parts (answer_in m)) mark ≡ list_any (λ b. is_same b m && is_among (parts_of b) mark) ms
     parts_at mark m first =
-        let a : Contact = answer_in m in
-        let own : Bool = is_among (part a a) mark in
-        sym (any_alike (λ b. is_same b m && is_among (parts_of b) mark) (λ b. ((is_same b m && b.is_first) && own) || (is_same b m && is_among (part a (contact_in b).contact) mark)) ms
-        (all_of (λ b. (is_same b m && is_among (parts_of b) mark) ≡ (((is_same b m && b.is_first) && own) || (is_same b m && is_among (part a (contact_in b).contact) mark)))
-        (λ b. one_member a (answer_in b) (contact_in b).contact mark b.is_first (is_same b m) refl) ms)
-        ∙ sym (any_either (λ b. (is_same b m && b.is_first) && own) (λ b. is_same b m && is_among (part a (contact_in b).contact) mark) ms)
-        ∙ ap (λ t. t || list_any (λ b. is_same b m && is_among (part a (contact_in b).contact) mark) ms)
-        (and_any (λ b. is_same b m && b.is_first) own ms ∙ ap (λ t. t && own) (has_first m first))
-        ∙ ap (λ t. own || t) (of_contacts m mark)
-        ∙ sym (list_any-append (λ t. bytes_eq t mark) (part a a) (flat_map (part a) (answered_by h ts a))))
+        list_any-append (λ t. bytes_eq t mark) (part a a) (flat_map (part a) (answered_by h ts a)) ∙ ap (λ t. own || t) (sym (of_contacts m mark))
+        ∙ by own refl
+      where
+        a : Contact
+        a = answer_in m
+
+        own : Bool
+        own = is_among (part a a) mark
+
+        theirs : Bool
+        theirs = list_any (λ b. is_same b m && is_among (part a (contact_in b).contact) mark) ms
+
+        some : Bool
+        some = list_any (λ b. is_same b m && has_own b) ms
+
+        each_is : list_any (λ b. is_same b m && is_among (parts_of b) mark) ms ≡ ((some && own) || theirs)
+        each_is =
+            any_alike (λ b. is_same b m && is_among (parts_of b) mark) (λ b. ((is_same b m && has_own b) && own) || (is_same b m && is_among (part a (contact_in b).contact) mark)) ms
+            (all_of (λ b. (is_same b m && is_among (parts_of b) mark) ≡ (((is_same b m && has_own b) && own) || (is_same b m && is_among (part a (contact_in b).contact) mark)))
+            (λ b. one_member a (answer_in b) (contact_in b).contact mark (has_own b) (is_same b m) refl) ms)
+            ∙ sym (any_either (λ b. (is_same b m && has_own b) && own) (λ b. is_same b m && is_among (part a (contact_in b).contact) mark) ms)
+            ∙ ap (λ t. t || theirs) (and_any (λ b. is_same b m && has_own b) own ms)
+
+        gone : (s t : Bool) → ((s && false) || t) ≡ t
+        gone s t = grind arith
+
+        by : (t : Bool) → own ≡ t → (own || theirs) ≡ list_any (λ b. is_same b m && is_among (parts_of b) mark) ms
+        by true is = ap (λ t. t || theirs) is ∙ sym (has_answer mark m first is)
+        by false is = ap (λ t. t || theirs) is ∙ sym (each_is ∙ ap (λ t. (some && t) || theirs) is ∙ gone some theirs)
 
     -- what an answer has, in the parts of its contacts
     pub parts_among : (mark : Text) → AllByRecursion (λ m. is_among (all_parts (answer_in m)) mark ≡ list_any (λ b. is_same b m && is_among (parts_of b) mark) ms) ms

@@ -7,7 +7,7 @@ use Rattle.mailmap_entries.specs.Folding.{Text}
 use Rattle.mailmap_names.specs.Keys.{is_among, marks}
 use Rattle.mailmap_suggestions.specs.Forms.{Histories}
 use Rattle.mailmap_suggestions.specs.Links.{answered_by, name_marks, names_of, takes_part}
-use Rattle.mailmap_suggestions.specs.LinkViews.{AreLinksOf, AreMembers, answer_in, contact_in, links_to, name_links_of}
+use Rattle.mailmap_suggestions.specs.LinkViews.{AreLinksOf, AreMembers, answer_in, contact_in, has_own, links_to, name_links_of}
 use Rattle.mailmap_suggestions.specs.declared.members.Member.{Member}
 use Rattle.mailmap_suggestions.proofs.MemberMarks.{all_parts, are_links, links_by}
 
@@ -32,7 +32,7 @@ name_links_are_links shared h ts ms ps are is =
         by false = refl
 
     links_is : name_links_of ≡ links_by h ts ms are part
-    links_is i m = by m.is_first i
+    links_is i m = by (has_own m) i
       where
         by : (f : Bool) → ((if f then links_to m.first (marks (answer_in m).name) else []) ++ links_to m.first (marks (contact_in m).contact.name))
             ≡ links_to m.first ((if f then marks (answer_in m).name else []) ++ marks (contact_in m).contact.name)

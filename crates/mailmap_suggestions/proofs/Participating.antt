@@ -5,6 +5,7 @@ use Rattle.std.specs.BTreeMap.{BTreeMap, get, is_at}
 use Rattle.std.specs.BTreeSet.{BTreeSet, contains}
 use Rattle.std.specs.List.{AllByRecursion, Contains, list_all, list_any}
 use Rattle.std.specs.Option.{option_or}
+use Rattle.std.proofs.lemmas.Bool.{eqb-true}
 use Rattle.std.proofs.lemmas.Cmp.{nat_list_eq_equiv}
 use Rattle.std.proofs.lemmas.List.{length-map, length-take, map-append}
 use Rattle.std.proofs.lemmas.List.Elements.{All-contains, All-from_recursion, filter_more}
@@ -293,6 +294,10 @@ not_apart false once found is some = ap not some
 
 pub if_shared : (mailed shared apart : Bool) → mailed ≡ true → shared ≡ true → apart ≡ (mailed && (not shared || apart))
 if_shared mailed shared apart some many = grind (arith, some, many)
+
+pub none_in : {X : Type 0} (xs : List X) → (length xs == 0) ≡ true → xs ≡ []
+none_in [] is = refl
+none_in (x ∷ xs) is = let none : length (x ∷ xs) ≡ 0 = eqb-true (length (x ∷ xs)) 0 is in absurd (omega arith)
 
 -- one more that passes, or doesn't
 pub filter_yes : {X : Type 0} (p : X → Bool) (xs : List X) (k : ℕ) (d : X) (old new : List X) → k < length xs → old ≡ filter p (take k xs)

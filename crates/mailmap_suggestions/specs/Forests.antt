@@ -4,7 +4,7 @@ use Rattle.mailmap_entries.specs.Folding.{Text}
 use Rattle.mailmap_suggestions.specs.declared.classes.Link.{Link}
 
 abbrev pub link_of : Link → Text × ℕ
-link_of link = (link.mark.items, link.item)
+link_of link = (link.mark.text.items, link.item)
 
 abbrev pub links_of : List Link → List (Text × ℕ)
 links_of links = map link_of links

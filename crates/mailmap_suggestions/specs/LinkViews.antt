@@ -1,6 +1,7 @@
 -- Contacts with their answers, the keys of answers, and links and classes, as the code has them.
 use Rattle.std.specs.Prelude.{◌≡◌, ◌&&◌, ◌||◌, ◌==◌, ◌++◌, ℕ, Bool, false, true, not, if◌then◌else◌, List, []}
 use Rattle.std.specs.Prelude.{Option, None, Some, bytes_eq, filter, map, position, slice_get}
+use Rattle.std.specs.Borrow.{Bor}
 use Rattle.std.specs.BTreeMap.{get_by}
 use Rattle.std.specs.BTreeSet.{BTreeSet, contains}
 use Rattle.std.specs.Cmp.Lexicographic.{slice_cmp}
@@ -21,6 +22,7 @@ use Rattle.mailmap_suggestions.specs.Links.{is_first_name, mail_keys, participan
 use Rattle.mailmap_suggestions.specs.declared.holders.Holder.{Holder}
 use Rattle.mailmap_suggestions.specs.declared.holders.Holders.{Holders}
 use Rattle.mailmap_suggestions.specs.declared.links.LoginKeys.{LoginKeys}
+use Rattle.mailmap_suggestions.specs.declared.marks.Mark.{Mark}
 use Rattle.mailmap_suggestions.specs.declared.members.Member.{Member}
 
 -- ---- contacts with their answers
@@ -68,9 +70,13 @@ AreRespelled ms found = (key : Folded) → contains folded_cmp found key ≡ lis
 abbrev pub links_to : ℕ → List Text → List (Text × ℕ)
 links_to item found = map (λ mark. (mark, item)) found
 
--- those by the names of a contact, and of its answer if no contact before has that
+-- whether it has the texts of its answer, too: the first contact with it, unless that is the answer
+abbrev pub has_own : Member → Bool
+has_own m = m.is_first && not (same_contact (answer_in m) (contact_in m).contact)
+
+-- those by the names of a contact, and of its answer if that is to be read with it
 abbrev pub name_links_of : Member → List (Text × ℕ)
-name_links_of m = (if m.is_first then links_to m.first (marks (answer_in m).name) else [])
+name_links_of m = (if has_own m then links_to m.first (marks (answer_in m).name) else [])
     ++ links_to m.first (marks (contact_in m).contact.name)
 
 -- These are the marks of all answers: each with the index of the first contact with its answer.
@@ -88,25 +94,34 @@ AreWhole h ts us = AllByRecursion (λ a. answered_by h us a ≡ answered_by h ts
 abbrev pub vec_cmp : Vec ℕ → Vec ℕ → Ordering
 vec_cmp a b = slice_cmp nat_cmp a.items b.items
 
+abbrev pub mark_text : Mark → Text
+mark_text m = m.text.items
+
+abbrev pub mark_texts : List Mark → List Text
+mark_texts marks = map mark_text marks
+
+abbrev pub mark_cmp : Mark → Mark → Ordering
+mark_cmp a b = slice_cmp nat_cmp a.text.items b.text.items
+
 abbrev pub is_another : Option Holder → Contact → Bool
 is_another None a = false
-is_another (Some holder) a = not holder.is_one || not (same_contact (tally_of holder.first).contact a)
+is_another (Some holder) a = not holder.is_one || not (same_contact (tally_of holder.first.now).contact a)
 
 abbrev pub is_several : Option Holder → Bool
 is_several None = false
 is_several (Some holder) = not holder.is_one
 
 -- after one more answer
-abbrev pub joined : Option Holder → TheTally → Holder
+abbrev pub joined : Option Holder → Bor TheTally → Holder
 joined None a = record { first = a; is_one = true }
 joined (Some holder) a = record {
   first = holder.first;
-  is_one = holder.is_one && same_contact (tally_of holder.first).contact (tally_of a).contact;
+  is_one = holder.is_one && same_contact (tally_of holder.first.now).contact (tally_of a.now).contact;
 }
 
 -- the holder of a key
 abbrev pub holder_of : Holders → Text → Option Holder
-holder_of found key = get_by (λ k. slice_cmp nat_cmp key k.items) found.by_key
+holder_of found key = get_by (λ k. slice_cmp nat_cmp key k.text.items) found.by_key
 
 -- the keys and answers that were added
 abbrev pub HoldersOf : List (Text × Contact) → Holders → Type 0
@@ -116,9 +131,9 @@ HoldersOf pairs found = (key : Text) (a : Contact) → is_another (holder_of fou
 abbrev pub with_answer : Contact → List Text → List (Text × Contact)
 with_answer a texts = map (λ key. (key, a)) texts
 
--- the keys of a contact with its answer, and of that if no contact before has it
+-- the keys of a contact with its answer, and of that if it is to be read with it
 abbrev pub pairs_by : (Contact → List Text) → Member → List (Text × Contact)
-pairs_by keys_of m = (if m.is_first then with_answer (answer_in m) (keys_of (answer_in m)) else [])
+pairs_by keys_of m = (if has_own m then with_answer (answer_in m) (keys_of (answer_in m)) else [])
     ++ with_answer (answer_in m) (keys_of (contact_in m).contact)
 
 -- the key of a name that no two first names have, of the login of another answer
@@ -135,9 +150,9 @@ abbrev pub login_links_of : List Text → LoginKeys → Member → Contact → L
 login_links_of shared found m c = links_to m.first (filter (is_login_in found (answer_in m)) (keys c.name))
     ++ links_to m.first (filter (is_name_in found (answer_in m)) (email_keys shared c.email))
 
--- those by a contact, and by its answer if no contact before has that
+-- those by a contact, and by its answer if that is to be read with it
 abbrev pub all_login_links_of : List Text → LoginKeys → Member → List (Text × ℕ)
-all_login_links_of shared found m = (if m.is_first then login_links_of shared found m (answer_in m) else [])
+all_login_links_of shared found m = (if has_own m then login_links_of shared found m (answer_in m) else [])
     ++ login_links_of shared found m (contact_in m).contact
 
 -- These are the keys of all answers that take part; first names are those of all answers with an email.

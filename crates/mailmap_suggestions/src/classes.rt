@@ -6,13 +6,14 @@ ghost use Rattle.mailmap_suggestions.specs.Classes.{AreClasses};
 ghost use Rattle.mailmap_suggestions.specs.Forests.{AgreesAlong, IsForest, IsJoined, IsRoot, Joins, KeepsClasses};
 ghost use Rattle.mailmap_suggestions.specs.Forests.{links_of};
 
+use crate::marks::Mark;
 use std::alloc::{AllocError, Global};
 use std::cmp::Ordering;
 
 /// A mark, and an item that has it.
 #[derive(Drop)]
 pub(crate) struct Link {
-    pub mark: Vec<u8>,
+    pub mark: Mark,
     pub item: usize,
 }
 
@@ -38,9 +39,9 @@ pub(crate) fn classes_of(
 }
 
 fn compare(a: &Link, b: &Link) -> Ordering
-    ensures { result ≡ text_cmp a.now.mark.items b.now.mark.items }
+    ensures { result ≡ text_cmp a.now.mark.text.items b.now.mark.text.items }
 {
-    a.mark.as_slice().cmp(b.mark.as_slice())
+    a.mark.cmp(&b.mark)
 }
 
 // Items in classes of their own.
@@ -65,7 +66,7 @@ fn join_neighbours(parents: &mut [usize], links: &[Link])
     for index in 1..links.len() {
         let before = &links[index - 1];
         let link = &links[index];
-        if before.mark.as_slice() == link.mark.as_slice() {
+        if before.mark.text.as_slice() == link.mark.text.as_slice() {
             join(parents, before.item, link.item);
         }
     }

@@ -3,11 +3,11 @@ ghost use Rattle.std.specs.Prelude.{◌≡◌, ◌∷◌, ◌++◌, [], List, On
 ghost use Rattle.mailmap_contacts.specs.Answers.{tally_of};
 ghost use Rattle.mailmap_contacts.specs.Contacts.{Contact};
 ghost use Rattle.mailmap_entries.specs.Folding.{Text};
-ghost use Rattle.mailmap_names.specs.Keys.{texts};
 ghost use Rattle.mailmap_suggestions.specs.LinkViews.{HoldersOf, holder_of, is_another, is_several};
-ghost use Rattle.mailmap_suggestions.specs.LinkViews.{joined as spec_joined};
+ghost use Rattle.mailmap_suggestions.specs.LinkViews.{joined as spec_joined, mark_texts};
 ghost use Rattle.mailmap_suggestions.specs.LinkViews.{with_answer};
 
+use crate::marks::Mark;
 use mailmap_contacts::answers::Tally;
 use mailmap_contacts::proper::is_same;
 use std::alloc::{AllocError, Global};
@@ -15,18 +15,18 @@ use std::collections::BTreeMap;
 
 /// Keys with the answers that have them. Of each key the first answer is kept, and whether there is another.
 #[derive(Drop)]
-pub(crate) struct Holders<'a> {
-    by_key: BTreeMap<Vec<u8>, Holder<'a>>,
+pub(crate) struct Holders<'m, 'a> {
+    by_key: BTreeMap<Mark, Holder<'m, 'a>>,
 }
 
 #[derive(Clone, Copy)]
-struct Holder<'a> {
-    first: Tally<'a>,
+struct Holder<'m, 'a> {
+    first: &'m Tally<'a>,
     is_one: bool,
 }
 
-impl<'a> Holders<'a> {
-    pub(crate) fn new(alloc: Global) -> Holders<'a>
+impl<'m, 'a> Holders<'m, 'a> {
+    pub(crate) fn new(alloc: Global) -> Holders<'m, 'a>
         ensures { HoldersOf [] result }
     {
         Holders {
@@ -37,11 +37,11 @@ impl<'a> Holders<'a> {
     /// Adds an answer that has these keys.
     pub(crate) fn add_all(
         &mut self,
-        keys: Vec<Vec<u8>>,
-        answer: &Tally<'a>,
+        keys: Vec<Mark>,
+        answer: &'m Tally<'a>,
     ) -> Result<(), AllocError>
         ensures { OnOk result ((pairs : List (Text × Contact)) → HoldersOf pairs self.old
-            → HoldersOf (pairs ++ with_answer (tally_of answer.now).contact (texts keys.items)) self.new) }
+            → HoldersOf (pairs ++ with_answer (tally_of answer.now).contact (mark_texts keys.items)) self.new) }
     {
         for key in keys {
             self.add(key, answer)?;
@@ -49,9 +49,9 @@ impl<'a> Holders<'a> {
         Ok(())
     }
 
-    fn add(&mut self, key: Vec<u8>, answer: &Tally<'a>) -> Result<(), AllocError>
+    fn add(&mut self, key: Mark, answer: &'m Tally<'a>) -> Result<(), AllocError>
         ensures { OnOk result ((pairs : List (Text × Contact)) → HoldersOf pairs self.old
-            → HoldersOf (pairs ++ (key.items, (tally_of answer.now).contact) ∷ []) self.new) }
+            → HoldersOf (pairs ++ (key.text.items, (tally_of answer.now).contact) ∷ []) self.new) }
     {
         let holder = joined(self.by_key.get(&key).copied(), answer);
         self.by_key.insert(key, holder)?;
@@ -59,8 +59,8 @@ impl<'a> Holders<'a> {
     }
 
     /// Whether two answers have a key.
-    pub(crate) fn are_several(&self, key: &Vec<u8>) -> bool
-        ensures { result ≡ is_several (holder_of self.now key.now.items) }
+    pub(crate) fn are_several(&self, key: &Mark) -> bool
+        ensures { result ≡ is_several (holder_of self.now key.now.text.items) }
     {
         match self.by_key.get(key) {
             Some(holder) => !holder.is_one,
@@ -69,27 +69,27 @@ impl<'a> Holders<'a> {
     }
 
     /// Whether another answer than this one has a key.
-    pub(crate) fn has_another(&self, key: &Vec<u8>, answer: &Tally<'a>) -> bool
-        ensures { result ≡ is_another (holder_of self.now key.now.items) (tally_of answer.now).contact }
+    pub(crate) fn has_another(&self, key: &Mark, answer: &Tally<'a>) -> bool
+        ensures { result ≡ is_another (holder_of self.now key.now.text.items) (tally_of answer.now).contact }
     {
         match self.by_key.get(key) {
-            Some(holder) => !holder.is_one || !is_same(&holder.first, answer),
+            Some(holder) => !holder.is_one || !is_same(holder.first, answer),
             None => false,
         }
     }
 }
 
 // The holder of a key, after one more answer that has it.
-fn joined<'a>(holder: Option<Holder<'a>>, answer: &Tally<'a>) -> Holder<'a>
-    ensures { result ≡ spec_joined holder.entry answer.now }
+fn joined<'m, 'a>(holder: Option<Holder<'m, 'a>>, answer: &'m Tally<'a>) -> Holder<'m, 'a>
+    ensures { result ≡ spec_joined holder.entry answer.entry }
 {
     match holder {
         Some(holder) => Holder {
             first: holder.first,
-            is_one: holder.is_one && is_same(&holder.first, answer),
+            is_one: holder.is_one && is_same(holder.first, answer),
         },
         None => Holder {
-            first: *answer,
+            first: answer,
             is_one: true,
         },
     }

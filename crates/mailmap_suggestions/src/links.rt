@@ -6,14 +6,14 @@ ghost use Rattle.std.specs.Option.{option_copied};
 ghost use Rattle.mailmap_contacts.specs.Answers.{tally_of};
 ghost use Rattle.mailmap_contacts.specs.Contacts.{Contact, Tally as ATally, has_text as spec_has_text};
 ghost use Rattle.mailmap_entries.specs.Folding.{Text, folded};
-ghost use Rattle.mailmap_names.specs.Keys.{first_words as spec_first_words, keys, marks, texts};
+ghost use Rattle.mailmap_names.specs.Keys.{first_words as spec_first_words, keys, marks};
 ghost use Rattle.mailmap_suggestions.specs.FirstLogins.{is_missing as spec_is_missing, login_in};
 ghost use Rattle.mailmap_suggestions.specs.FirstLogins.{own_login, with_login};
 ghost use Rattle.mailmap_suggestions.specs.Forests.{links_of};
 ghost use Rattle.mailmap_suggestions.specs.Forms.{Histories};
 ghost use Rattle.mailmap_suggestions.specs.LinkViews.{AreLinksOf, AreLoginKeys, AreMembers, AreWhole, HoldersOf};
 ghost use Rattle.mailmap_suggestions.specs.LinkViews.{answer_in, is_login_in, is_name_in, links_to, login_links_of};
-ghost use Rattle.mailmap_suggestions.specs.LinkViews.{name_links_of, pairs_by};
+ghost use Rattle.mailmap_suggestions.specs.LinkViews.{mark_texts, name_links_of, pairs_by};
 ghost use Rattle.mailmap_suggestions.specs.Links.{AreClassesBy, another_has, answers as spec_answers};
 ghost use Rattle.mailmap_suggestions.specs.Links.{email_keys as spec_email_keys};
 ghost use Rattle.mailmap_suggestions.specs.Links.{linking_logins, login_marks, takes_part};
@@ -22,13 +22,14 @@ ghost use Rattle.mailmap_suggestions.specs.declared.members.Member.{Member as AM
 
 use crate::classes::{Link, classes_of};
 use crate::holders::Holders;
-use crate::members::Member;
+use crate::marks::{Mark, marks_of};
+use crate::members::{Member, has_own};
 use crate::shared::SharedEmails;
 use itoa::Buffer;
 use mailmap_contacts::answers::Tally;
 use mailmap_contacts::proper::has_text;
 use mailmap_names::logins::login;
-use mailmap_names::names::{Name, login_keys};
+use mailmap_names::names::{self, login_keys, name_marks};
 use std::alloc::{AllocError, Global};
 
 /// The links of answers by the marks of their names and of those of their contacts.
@@ -40,7 +41,7 @@ pub(crate) fn name_links(
 {
     let mut links = Vec::new(alloc);
     for member in participants {
-        if member.is_first {
+        if has_own(member) {
             push_marks(&mut links, member.answer.name, member.first)?;
         }
         push_marks(&mut links, member.contact.name, member.first)?;
@@ -52,7 +53,7 @@ fn push_marks(links: &mut Vec<Link>, name: &[u8], item: usize) -> Result<(), All
     ensures { OnOk result (links_of links.new.items ≡ links_of links.old.items ++ links_to item (marks name.now)) }
 {
     let alloc = *links.allocator();
-    for mark in Name::read(alloc, name)?.marks(alloc)? {
+    for mark in marks_of(alloc, name_marks(alloc, name)?)? {
         links.push(Link { mark, item })?;
     }
     Ok(())
@@ -60,20 +61,20 @@ fn push_marks(links: &mut Vec<Link>, name: &[u8], item: usize) -> Result<(), All
 
 /// The keys of names and logins, with the answers that have them.
 #[derive(Drop)]
-pub(crate) struct LoginKeys<'a> {
-    names: Holders<'a>,
-    logins: Holders<'a>,
-    first_names: Holders<'a>,
+pub(crate) struct LoginKeys<'m, 'a> {
+    names: Holders<'m, 'a>,
+    logins: Holders<'m, 'a>,
+    first_names: Holders<'m, 'a>,
 }
 
-impl<'a> LoginKeys<'a> {
+impl<'m, 'a> LoginKeys<'m, 'a> {
     /// Those of all answers with an email, as far as first names go, and those of the answers that take part.
     pub(crate) fn read(
         alloc: Global,
         shared: &SharedEmails<'a>,
-        members: &[Member<'_, 'a>],
-        participants: &[Member<'_, 'a>],
-    ) -> Result<LoginKeys<'a>, AllocError>
+        members: &'m [Member<'_, 'a>],
+        participants: &'m [Member<'_, 'a>],
+    ) -> Result<LoginKeys<'m, 'a>, AllocError>
         ensures { (h : Histories) (ts : List ATally) → AreMembers h ts members.now
             → participants.now ≡ filter (λ m. takes_part shared.now h ts (answer_in m)) members.now
             → IfOk result (AreLoginKeys shared.now h ts) }
@@ -102,7 +103,7 @@ impl<'a> LoginKeys<'a> {
     {
         let mut links = Vec::new(alloc);
         for member in participants {
-            if member.is_first {
+            if has_own(member) {
                 self.push_links(&mut links, shared, member, &member.answer)?;
             }
             self.push_links(&mut links, shared, member, member.contact)?;
@@ -164,14 +165,14 @@ impl<'a> LoginKeys<'a> {
         Ok(())
     }
 
-    fn is_login_of_another(&self, key: &Vec<u8>, answer: &Tally<'a>) -> bool
-        ensures { result ≡ is_login_in self.now (tally_of answer.now).contact key.now.items }
+    fn is_login_of_another(&self, key: &Mark, answer: &Tally<'a>) -> bool
+        ensures { result ≡ is_login_in self.now (tally_of answer.now).contact key.now.text.items }
     {
         !self.first_names.are_several(key) && self.logins.has_another(key, answer)
     }
 
-    fn is_name_of_another(&self, key: &Vec<u8>, answer: &Tally<'a>) -> bool
-        ensures { result ≡ is_name_in self.now (tally_of answer.now).contact key.now.items }
+    fn is_name_of_another(&self, key: &Mark, answer: &Tally<'a>) -> bool
+        ensures { result ≡ is_name_in self.now (tally_of answer.now).contact key.now.text.items }
     {
         !self.first_names.are_several(key) && self.names.has_another(key, answer)
     }
@@ -271,7 +272,10 @@ impl<'a> LoginKeys<'a> {
 }
 
 // The keys of names, with the answers that have them.
-fn names_of<'a>(alloc: Global, participants: &[Member<'_, 'a>]) -> Result<Holders<'a>, AllocError>
+fn names_of<'m, 'a>(
+    alloc: Global,
+    participants: &'m [Member<'_, 'a>],
+) -> Result<Holders<'m, 'a>, AllocError>
     ensures { IfOk result (HoldersOf (flat_map (pairs_by (λ c. keys c.name)) participants.now)) }
 {
     let mut names = Holders::new(alloc);
@@ -281,27 +285,27 @@ fn names_of<'a>(alloc: Global, participants: &[Member<'_, 'a>]) -> Result<Holder
     Ok(names)
 }
 
-fn add_names<'a>(
+fn add_names<'m, 'a>(
     alloc: Global,
-    names: &mut Holders<'a>,
-    member: &Member<'_, 'a>,
+    names: &mut Holders<'m, 'a>,
+    member: &'m Member<'_, 'a>,
 ) -> Result<(), AllocError>
     ensures { OnOk result ((pairs : List (Text × Contact)) → HoldersOf pairs names.old
         → HoldersOf (pairs ++ pairs_by (λ c. keys c.name) member.now) names.new) }
 {
     let answer = &member.answer;
-    if member.is_first {
+    if has_own(member) {
         names.add_all(name_keys(alloc, answer.name)?, answer)?;
     }
     names.add_all(name_keys(alloc, member.contact.name)?, answer)
 }
 
 // The keys of the logins of emails, with the answers that have them.
-fn logins_of<'a>(
+fn logins_of<'m, 'a>(
     alloc: Global,
     shared: &SharedEmails<'a>,
-    participants: &[Member<'_, 'a>],
-) -> Result<Holders<'a>, AllocError>
+    participants: &'m [Member<'_, 'a>],
+) -> Result<Holders<'m, 'a>, AllocError>
     ensures { IfOk result (HoldersOf
         (flat_map (pairs_by (λ c. spec_email_keys shared.now c.email)) participants.now)) }
 {
@@ -312,24 +316,27 @@ fn logins_of<'a>(
     Ok(logins)
 }
 
-fn add_logins<'a>(
+fn add_logins<'m, 'a>(
     alloc: Global,
-    logins: &mut Holders<'a>,
+    logins: &mut Holders<'m, 'a>,
     shared: &SharedEmails<'a>,
-    member: &Member<'_, 'a>,
+    member: &'m Member<'_, 'a>,
 ) -> Result<(), AllocError>
     ensures { OnOk result ((pairs : List (Text × Contact)) → HoldersOf pairs logins.old
         → HoldersOf (pairs ++ pairs_by (λ c. spec_email_keys shared.now c.email) member.now) logins.new) }
 {
     let answer = &member.answer;
-    if member.is_first {
+    if has_own(member) {
         logins.add_all(email_keys(alloc, shared, answer.email)?, answer)?;
     }
     logins.add_all(email_keys(alloc, shared, member.contact.email)?, answer)
 }
 
 // The keys of the first words of names, with the answers that have them and an email.
-fn first_names_of<'a>(alloc: Global, members: &[Member<'_, 'a>]) -> Result<Holders<'a>, AllocError>
+fn first_names_of<'m, 'a>(
+    alloc: Global,
+    members: &'m [Member<'_, 'a>],
+) -> Result<Holders<'m, 'a>, AllocError>
     ensures { IfOk result (HoldersOf (flat_map (pairs_by (λ c. spec_first_words c.name))
         (filter (λ m. spec_has_text (answer_in m).email) members.now))) }
 {
@@ -342,16 +349,16 @@ fn first_names_of<'a>(alloc: Global, members: &[Member<'_, 'a>]) -> Result<Holde
     Ok(first_names)
 }
 
-fn add_first_names<'a>(
+fn add_first_names<'m, 'a>(
     alloc: Global,
-    first_names: &mut Holders<'a>,
-    member: &Member<'_, 'a>,
+    first_names: &mut Holders<'m, 'a>,
+    member: &'m Member<'_, 'a>,
 ) -> Result<(), AllocError>
     ensures { OnOk result ((pairs : List (Text × Contact)) → HoldersOf pairs first_names.old
         → HoldersOf (pairs ++ pairs_by (λ c. spec_first_words c.name) member.now) first_names.new) }
 {
     let answer = &member.answer;
-    if member.is_first {
+    if has_own(member) {
         first_names.add_all(first_words(alloc, answer.name)?, answer)?;
     }
     first_names.add_all(first_words(alloc, member.contact.name)?, answer)
@@ -378,16 +385,16 @@ fn first_found<'a>(found: &[Option<&'a [u8]>]) -> &'a [u8]
     b""
 }
 
-fn first_words(alloc: Global, name: &[u8]) -> Result<Vec<Vec<u8>>, AllocError>
-    ensures { IfOk result (λ found. texts found.items ≡ spec_first_words name.now) }
+fn name_keys(alloc: Global, name: &[u8]) -> Result<Vec<Mark>, AllocError>
+    ensures { IfOk result (λ found. mark_texts found.items ≡ keys name.now) }
 {
-    Name::read(alloc, name)?.first_words(alloc)
+    marks_of(alloc, names::name_keys(alloc, name)?)
 }
 
-fn name_keys(alloc: Global, name: &[u8]) -> Result<Vec<Vec<u8>>, AllocError>
-    ensures { IfOk result (λ found. texts found.items ≡ keys name.now) }
+fn first_words(alloc: Global, name: &[u8]) -> Result<Vec<Mark>, AllocError>
+    ensures { IfOk result (λ found. mark_texts found.items ≡ spec_first_words name.now) }
 {
-    Ok(Name::read(alloc, name)?.into_keys())
+    marks_of(alloc, names::first_words(alloc, name)?)
 }
 
 // The keys of the login of an email that one person has.
@@ -395,13 +402,13 @@ fn email_keys<'a>(
     alloc: Global,
     shared: &SharedEmails<'a>,
     email: &'a [u8],
-) -> Result<Vec<Vec<u8>>, AllocError>
-    ensures { IfOk result (λ found. texts found.items ≡ spec_email_keys shared.now email.now) }
+) -> Result<Vec<Mark>, AllocError>
+    ensures { IfOk result (λ found. mark_texts found.items ≡ spec_email_keys shared.now email.now) }
 {
     if shared.contains(email) {
         return Ok(Vec::new(alloc));
     }
-    login_keys(alloc, email)
+    marks_of(alloc, login_keys(alloc, email)?)
 }
 
 /// The class of each contact, that of its answer, as a text: empty if there is no link to the answer.

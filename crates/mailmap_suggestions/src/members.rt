@@ -1,5 +1,5 @@
 //! Contacts with their answers, and which of these may be linked.
-ghost use Rattle.std.specs.Prelude.{◌≡◌, IfOk, List, filter, map};
+ghost use Rattle.std.specs.Prelude.{◌≡◌, ◌≢◌, [], IfOk, List, filter, map};
 ghost use Rattle.std.specs.List.{Contains};
 ghost use Rattle.mailmap_contacts.specs.Answers.{tally_of};
 ghost use Rattle.mailmap_contacts.specs.Folded.{folded_text};
@@ -7,6 +7,7 @@ ghost use Rattle.mailmap_entries.specs.Folding.{folded as spec_folded};
 ghost use Rattle.mailmap_contacts.specs.Contacts.{Tally as ATally};
 ghost use Rattle.mailmap_suggestions.specs.Forms.{Histories};
 ghost use Rattle.mailmap_suggestions.specs.LinkViews.{AreMembers, AreRespelled, AreUnnamed, answer_in};
+ghost use Rattle.mailmap_suggestions.specs.LinkViews.{has_own};
 ghost use Rattle.mailmap_suggestions.specs.Links.{takes_part};
 ghost use Rattle.mailmap_suggestions.specs.declared.members.Member.{Member as AMember};
 
@@ -14,7 +15,7 @@ use crate::answers::Answers;
 use crate::shared::SharedEmails;
 use mailmap_contacts::answers::Tally;
 use mailmap_contacts::folded::Folded;
-use mailmap_contacts::proper::has_text;
+use mailmap_contacts::proper::{has_text, is_same};
 use std::alloc::{AllocError, Global};
 use std::collections::{BTreeMap, BTreeSet};
 
@@ -54,6 +55,13 @@ pub(crate) fn members_of<'c, 'a>(
     Ok(members)
 }
 
+/// Whether the texts of the answer itself are to be read with this contact: at the first one, unless it is the answer.
+pub(crate) fn has_own(member: &Member<'_, '_>) -> bool
+    ensures { result ≡ has_own member.now }
+{
+    member.is_first && !is_same(&member.answer, member.contact)
+}
+
 /// The contacts whose answers may be linked: the answer has an email. If several people share that, all contacts with
 /// the answer, ASCII case aside, have names, and all answers with the email spell it in one way.
 pub(crate) fn participants<'c, 'a>(
@@ -64,8 +72,9 @@ pub(crate) fn participants<'c, 'a>(
     ensures { (h : Histories) (ts : List ATally) → AreMembers h ts members.now → IfOk result (λ found.
         found.items ≡ filter (λ m. takes_part shared.now h ts (answer_in m)) members.now) }
 {
-    let unnamed = unnamed(alloc, members)?;
-    let respelled = respelled(alloc, members)?;
+    let apart = those_apart(shared, members);
+    let unnamed = unnamed(alloc, apart)?;
+    let respelled = respelled(alloc, apart)?;
     let mut found = Vec::new(alloc);
     for member in members {
         if takes_part(shared, &unnamed, &respelled, member) {
@@ -75,14 +84,25 @@ pub(crate) fn participants<'c, 'a>(
     Ok(found)
 }
 
+// The contacts to look at for answers that are kept apart: only those with shared emails may be.
+fn those_apart<'m, 'c, 'a>(
+    shared: &SharedEmails<'a>,
+    members: &'m [Member<'c, 'a>],
+) -> &'m [Member<'c, 'a>]
+    ensures { shared.now ≢ [] → result.now ≡ members.now }
+{
+    if shared.is_empty() { &[] } else { members }
+}
+
 fn takes_part<'a>(
     shared: &SharedEmails<'a>,
     unnamed: &BTreeSet<(Folded<'a>, Folded<'a>)>,
     respelled: &BTreeSet<Folded<'a>>,
     member: &Member<'_, 'a>,
 ) -> bool
-    ensures { (h : Histories) (ts : List ATally) (ms : List AMember) → AreMembers h ts ms → AreUnnamed ms unnamed.now
-        → AreRespelled ms respelled.now → Contains ms member.now
+    ensures { (h : Histories) (ts : List ATally) (ms : List AMember) → AreMembers h ts ms
+        → (shared.now ≢ [] → AreUnnamed ms unnamed.now) → (shared.now ≢ [] → AreRespelled ms respelled.now)
+        → Contains ms member.now
         → result ≡ takes_part shared.now h ts (answer_in member.now) }
 {
     let email = member.answer.email;

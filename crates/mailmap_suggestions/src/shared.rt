@@ -1,5 +1,5 @@
 //! The emails that several people share.
-ghost use Rattle.std.specs.Prelude.{◌≡◌, ◌++◌, ◌∷◌, [], ◌≤◌, List, IfOk, OnOk, if◌then◌else◌};
+ghost use Rattle.std.specs.Prelude.{◌≡◌, ◌==◌, ◌++◌, ◌∷◌, [], ◌≤◌, List, IfOk, OnOk, if◌then◌else◌};
 ghost use Rattle.std.specs.Prelude.{is_none, length, map, take};
 ghost use Rattle.std.specs.List.{list_any};
 ghost use Rattle.mailmap_entries.specs.Entries.{mapping_of};
@@ -62,6 +62,13 @@ impl<'a> SharedEmails<'a> {
         push_shared(alloc, &without_names, contacts, &mut listed)?;
         let index = index_of(alloc, &listed)?;
         Ok(SharedEmails { listed, index })
+    }
+
+    /// Whether there are none.
+    pub(crate) fn is_empty(&self) -> bool
+        ensures { result ≡ (length self.now == 0) }
+    {
+        self.listed.is_empty()
     }
 
     /// Whether several people share an email.

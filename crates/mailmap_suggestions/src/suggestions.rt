@@ -1,5 +1,5 @@
 //! Suggests the lines that mailmaps lack for the contacts of a history.
-ghost use Rattle.std.specs.Prelude.{◌≡◌, ◌++◌, [], IfOk, List, OnOk, bytes_eq, if◌then◌else◌, map};
+ghost use Rattle.std.specs.Prelude.{◌≡◌, ◌++◌, [], IfOk, List, OnOk, bytes_eq, filter, if◌then◌else◌, map};
 ghost use Rattle.std.specs.List.{flat_map, list_all, list_any};
 ghost use Rattle.mailmap_entries.specs.Entries.{mapping_of};
 ghost use Rattle.mailmap_entries.specs.Folding.{Text, folded};
@@ -17,11 +17,12 @@ ghost use Rattle.mailmap_suggestions.specs.Suggestions.{lines_in, login_kind};
 ghost use Rattle.mailmap_suggestions.specs.Suggestions.{name_kind as spec_name_kind, still_suggested, suggestion};
 ghost use Rattle.mailmap_suggestions.specs.Suggestions.{suggestions};
 ghost use Rattle.mailmap_suggestions.specs.GroupEntries.{groups};
-ghost use Rattle.mailmap_suggestions.specs.Links.{AreClassesBy, answers as spec_answers, login_marks, name_marks};
-ghost use Rattle.mailmap_suggestions.specs.LinkViews.{AreLoginKeys, AreWhole};
+ghost use Rattle.mailmap_suggestions.specs.Links.{AreClassesBy, answers as spec_answers, login_marks, name_marks, takes_part};
+ghost use Rattle.mailmap_suggestions.specs.LinkViews.{AreLoginKeys, AreMembers, AreWhole, answer_in};
 ghost use Rattle.mailmap_suggestions.specs.Private.{contacts_of, tallies_in};
 ghost use Rattle.mailmap_suggestions.specs.RememberedViews.{Remembers};
 ghost use Rattle.mailmap_suggestions.specs.Shared.{shared_emails};
+ghost use Rattle.mailmap_suggestions.specs.Stages.{AddsLater, AreByLogin, AreByName};
 ghost use Rattle.mailmap_suggestions.specs.Views.{kind_of, listed_suggestion, suggestion_of};
 
 use crate::answers::Answers;
@@ -31,7 +32,7 @@ use crate::groups::{Groups, groups_by_class, groups_by_email};
 use crate::histories::Histories;
 pub use crate::kinds::Kind;
 use crate::links::{LoginKeys, classes_by, name_links};
-use crate::members::{members_of, participants};
+use crate::members::{Member, members_of, participants};
 use crate::remembered::Remembered;
 use crate::shared::SharedEmails;
 use crate::text::is_cut_by_git;
@@ -82,10 +83,24 @@ pub fn suggest<'a>(
         IfOk result (λ found. (c : GroupClasses) × AreGroupClasses shared h ts c
         × (map suggestion_of found.items ≡ suggestions shared c (lines_in mailmaps) h ts)) }
 {
+    let counted = contacts.in_order(alloc)?;
+    suggest_for_contacts(alloc, buffers, counted.as_slice())
+}
+
+fn suggest_for_contacts<'a>(
+    alloc: Global,
+    buffers: &[&'a [u8]],
+    contacts: &[Tally<'a>],
+) -> Result<Vec<Suggestion<'a>>, AllocError>
+    ensures { let mailmaps = map (λ b. b.now) buffers.now in
+        let h = histories_of mailmaps in
+        let ts = map tally_of contacts.now in
+        let shared = shared_emails h ts in
+        IfOk result (λ found. (c : GroupClasses) × AreGroupClasses shared h ts c
+        × (map suggestion_of found.items ≡ suggestions shared c (lines_in mailmaps) h ts)) }
+{
     let histories = Histories::read(alloc, buffers)?;
     let remembered = Remembered::read(alloc, buffers)?;
-    let counted = contacts.in_order(alloc)?;
-    let contacts = counted.as_slice();
     let shared = SharedEmails::read(alloc, &histories, contacts)?;
     all_stages(alloc, &shared, &remembered, histories, contacts)
 }
@@ -106,11 +121,28 @@ fn all_stages<'a>(
     let mut histories = histories;
     let mut found = by_email(alloc, shared, &histories, contacts)?;
     add_entries(&mut histories, found.as_slice())?;
-    let by_name = by_name(alloc, shared, &histories, contacts)?;
-    let by_login = by_login(alloc, shared, &histories, by_name.as_slice(), contacts)?;
-    push_new(alloc, &mut found, by_name, remembered)?;
-    push_new(alloc, &mut found, by_login, remembered)?;
+    push_later(alloc, shared, remembered, &histories, contacts, &mut found)?;
     Ok(found)
+}
+
+// Appends the suggestions of stages 2 and 3.
+fn push_later<'a>(
+    alloc: Global,
+    shared: &SharedEmails<'a>,
+    remembered: &Remembered,
+    histories: &Histories<'a>,
+    contacts: &[Tally<'a>],
+    found: &mut Vec<Suggestion<'a>>,
+) -> Result<(), AllocError>
+    ensures { (lines : List Text) → Remembers lines remembered.now → OnOk result (AddsLater shared.now lines
+        histories.now (map tally_of contacts.now) (map suggestion_of found.old.items)
+        (map suggestion_of found.new.items)) }
+{
+    let by_name = by_name(alloc, shared, histories, contacts)?;
+    let by_login = by_login(alloc, shared, histories, by_name.as_slice(), contacts)?;
+    push_new(alloc, found, by_name, remembered)?;
+    push_new(alloc, found, by_login, remembered)?;
+    Ok(())
 }
 
 // Stage 1.
@@ -124,8 +156,20 @@ fn by_email<'a>(
         ≡ email_suggestions shared.now histories.now (map tally_of contacts.now)) }
 {
     let answers = Answers::new(alloc, histories)?;
-    let groups = groups_by_email(alloc, &answers, contacts)?;
-    suggest_for_emails(alloc, shared, &answers, &groups)
+    suggest_by_email(alloc, shared, &answers, contacts)
+}
+
+fn suggest_by_email<'a>(
+    alloc: Global,
+    shared: &SharedEmails<'a>,
+    answers: &Answers<'_, 'a>,
+    contacts: &[Tally<'a>],
+) -> Result<Vec<Suggestion<'a>>, AllocError>
+    ensures { IfOk result (λ found. map suggestion_of found.items
+        ≡ email_suggestions shared.now answers.now (map tally_of contacts.now)) }
+{
+    let groups = groups_by_email(alloc, answers, contacts)?;
+    suggest_for_emails(alloc, shared, answers, &groups)
 }
 
 fn suggest_for_emails<'a>(
@@ -162,8 +206,20 @@ fn by_name<'a>(
         ≡ map (λ g. suggestion shared.now h h (spec_name_kind h g) g) (groups class h ts))) }
 {
     let answers = Answers::new(alloc, histories)?;
-    let groups = groups_by_name(alloc, shared, &answers, contacts)?;
-    suggest_for_names(alloc, shared, &answers, &groups)
+    suggest_by_name(alloc, shared, &answers, contacts)
+}
+
+fn suggest_by_name<'a>(
+    alloc: Global,
+    shared: &SharedEmails<'a>,
+    answers: &Answers<'_, 'a>,
+    contacts: &[Tally<'a>],
+) -> Result<Vec<Suggestion<'a>>, AllocError>
+    ensures { IfOk result (λ found. AreByName shared.now (map tally_of contacts.now) answers.now
+        (map suggestion_of found.items)) }
+{
+    let groups = groups_by_name(alloc, shared, answers, contacts)?;
+    suggest_for_names(alloc, shared, answers, &groups)
 }
 
 fn suggest_for_names<'a>(
@@ -221,11 +277,55 @@ fn by_login<'a>(
         ≡ map (λ g. suggestion shared.now histories.now all (login_kind shared.now all ts g) g)
         (groups class all ts))) }
 {
-    let base = Answers::new(alloc, histories)?;
+    if by_name.is_empty() {
+        return by_login_alone(alloc, shared, histories, contacts);
+    }
     let mut all = histories.copy(alloc)?;
     add_entries(&mut all, by_name)?;
-    let answers = Answers::new(alloc, &all)?;
-    suggest_for_logins(alloc, shared, &base, &answers, contacts)
+    by_login_in(alloc, shared, histories, &all, contacts)
+}
+
+// Where names add nothing.
+fn by_login_alone<'a>(
+    alloc: Global,
+    shared: &SharedEmails<'a>,
+    histories: &Histories<'a>,
+    contacts: &[Tally<'a>],
+) -> Result<Vec<Suggestion<'a>>, AllocError>
+    ensures { IfOk result (λ found. AreByLogin shared.now (map tally_of contacts.now) histories.now histories.now
+        (map suggestion_of found.items)) }
+{
+    let answers = Answers::new(alloc, histories)?;
+    suggest_for_logins(alloc, shared, &answers, &answers, contacts)
+}
+
+// For the answers of `all`; those that are suggested are for the answers of `base`.
+fn by_login_in<'a>(
+    alloc: Global,
+    shared: &SharedEmails<'a>,
+    base: &Histories<'a>,
+    all: &Histories<'a>,
+    contacts: &[Tally<'a>],
+) -> Result<Vec<Suggestion<'a>>, AllocError>
+    ensures { IfOk result (λ found. AreByLogin shared.now (map tally_of contacts.now) base.now all.now
+        (map suggestion_of found.items)) }
+{
+    let answers = Answers::new(alloc, all)?;
+    by_login_for(alloc, shared, base, &answers, contacts)
+}
+
+fn by_login_for<'a>(
+    alloc: Global,
+    shared: &SharedEmails<'a>,
+    base: &Histories<'a>,
+    answers: &Answers<'_, 'a>,
+    contacts: &[Tally<'a>],
+) -> Result<Vec<Suggestion<'a>>, AllocError>
+    ensures { IfOk result (λ found. AreByLogin shared.now (map tally_of contacts.now) base.now answers.now
+        (map suggestion_of found.items)) }
+{
+    let base = Answers::new(alloc, base)?;
+    suggest_for_logins(alloc, shared, &base, answers, contacts)
 }
 
 // For the answers with all entries; those that are suggested are for the answers of `base`.
@@ -247,14 +347,51 @@ fn suggest_for_logins<'a>(
     let members = all.as_slice();
     let taking_part = participants(alloc, shared, members)?;
     let participants = taking_part.as_slice();
+    let (keys, groups) = groups_by_login(alloc, shared, answers, contacts, members, participants)?;
+    suggest_for_each_login(alloc, shared, base, answers, &keys, &groups)
+}
+
+fn groups_by_login<'m, 'a>(
+    alloc: Global,
+    shared: &SharedEmails<'a>,
+    answers: &Answers<'_, 'a>,
+    contacts: &[Tally<'a>],
+    members: &'m [Member<'_, 'a>],
+    participants: &'m [Member<'_, 'a>],
+) -> Result<(LoginKeys<'m, 'a>, Groups<'a>), AllocError>
+    requires members { AreMembers answers.now (map tally_of contacts.now) members.now }
+    requires participants { participants.now
+        ≡ filter (λ m. takes_part shared.now answers.now (map tally_of contacts.now) (answer_in m)) members.now }
+    ensures { let h = answers.now in
+        let ts = map tally_of contacts.now in
+        IfOk result (λ found. (class : Contact → Text)
+        × AreClassesBy (login_marks shared.now h ts) (spec_answers h ts) class
+        × (map tallies_in found.1.items ≡ groups class h ts) × AreLoginKeys shared.now h ts found.0) }
+{
     let keys = LoginKeys::read(alloc, shared, members, participants)?;
     let links = keys.links(alloc, shared, participants)?;
     let classes = classes_by(alloc, members, links)?;
     let groups = groups_by_class(alloc, answers, contacts, classes.as_slice())?;
-    let mut found = Vec::with_capacity(alloc, groups.len())?;
-    for group in &groups {
+    Ok((keys, groups))
+}
+
+fn suggest_for_each_login<'a>(
+    alloc: Global,
+    shared: &SharedEmails<'a>,
+    base: &Answers<'_, 'a>,
+    answers: &Answers<'_, 'a>,
+    keys: &LoginKeys<'_, 'a>,
+    grouped: &[Vec<Tally<'a>>],
+) -> Result<Vec<Suggestion<'a>>, AllocError>
+    ensures { let h = answers.now in
+        (ts : List ATally) (class : Contact → Text) → AreLoginKeys shared.now h ts keys.now
+        → map tallies_in grouped.now ≡ groups class h ts → IfOk result (λ found. map suggestion_of found.items
+        ≡ map (λ g. suggestion shared.now base.now h (login_kind shared.now h ts g) g) (groups class h ts)) }
+{
+    let mut found = Vec::with_capacity(alloc, grouped.len())?;
+    for group in grouped {
         let group = group.as_slice();
-        let suggestion = suggest_for_login(alloc, shared, base, answers, &keys, group)?;
+        let suggestion = suggest_for_login(alloc, shared, base, answers, keys, group)?;
         found.push(suggestion)?;
     }
     Ok(found)
@@ -265,7 +402,7 @@ fn suggest_for_login<'a>(
     shared: &SharedEmails<'a>,
     base: &Answers<'_, 'a>,
     answers: &Answers<'_, 'a>,
-    keys: &LoginKeys<'a>,
+    keys: &LoginKeys<'_, 'a>,
     group: &[Tally<'a>],
 ) -> Result<Suggestion<'a>, AllocError>
     ensures { let h = answers.now in

@@ -27,9 +27,9 @@ returns c =
     let p = c.join_neighbours.new.parents in
     let q = c.flatten.new.parents in
     let count : length start ≡ c.args.count = c.in_ok-parents.ensures.len in
-    let compares = answers_always _ (λ a r. is_lt r ≡ is_lt (text_cmp a.0.now.mark.items a.1.0.now.mark.items)) _
-    (λ f a r f' k. let e : r ≡ text_cmp a.0.now.mark.items a.1.0.now.mark.items = search rules in ap is_lt e) in
-    let up = c.sort_unstable_by.ensures.sorted (λ (x y : Link). is_lt (text_cmp x.mark.items y.mark.items)) (ranks_by nat_list_cmp_total (λ (x : Link). x.mark.items)) compares in
+    let compares = answers_always _ (λ a r. is_lt r ≡ is_lt (text_cmp a.0.now.mark.text.items a.1.0.now.mark.text.items)) _
+    (λ f a r f' k. let e : r ≡ text_cmp a.0.now.mark.text.items a.1.0.now.mark.text.items = search rules in ap is_lt e) in
+    let up = c.sort_unstable_by.ensures.sorted (λ (x y : Link). is_lt (text_cmp x.mark.text.items y.mark.text.items)) (ranks_by nat_list_cmp_total (λ (x : Link). x.mark.text.items)) compares in
     let p_is : length p ≡ length start = c.join_neighbours.auto.parents ∙ ap length c.deref_mut.ensures.value in
     let joined : IsJoined start p (links_of sorted) (length sorted) = subst (λ s. IsJoined s p (links_of sorted) (length sorted)) c.deref_mut.ensures.value
     (subst (λ l. IsJoined c.deref_mut.result.now p (links_of l) (length l)) c.deref.ensures.value c.join_neighbours.ensures.joined) in

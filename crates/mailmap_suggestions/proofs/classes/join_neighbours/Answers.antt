@@ -20,18 +20,18 @@ loop-index-preserved c =
     let b : Link = c.index-links-index-in-loop-index.result in
     let first : link_at ls (index - 1) ≡ link_of a = link_read links (index - 1) a (omega arith) c.index-links-index.is in
     let second : link_at ls index ≡ link_of b = link_read links index b within c.index-links-index-in-loop-index.is in
-    let same : c.eq.result ≡ bytes_eq a.mark.items b.mark.items = c.eq.ensures
-    ∙ ap (λ m. bytes_eq m c.as_slice-in-loop-index.result.now) c.as_slice.ensures.value ∙ ap (bytes_eq a.mark.items) c.as_slice-in-loop-index.ensures.value in
+    let same : c.eq.result ≡ bytes_eq a.mark.text.items b.mark.text.items = c.eq.ensures
+    ∙ ap (λ m. bytes_eq m c.as_slice-in-loop-index.result.now) c.as_slice.ensures.value ∙ ap (bytes_eq a.mark.text.items) c.as_slice-in-loop-index.ensures.value in
     let most : index + 1 ≤ max 1 (length links) = omega arith in
     elim c.if-eq.branch [
       | then-eq w ↦
-          let marks : a.mark.items ≡ b.mark.items = (bytes_eq-Decides a.mark.items b.mark.items).0 (sym same ∙ w.if-eq.true) in
+          let marks : a.mark.text.items ≡ b.mark.text.items = (bytes_eq-Decides a.mark.text.items b.mark.text.items).0 (sym same ∙ w.if-eq.true) in
           let joined : IsJoined start w.join.new.parents ls (index + 1) = neighbours_joined start c.loop-index.parents w.join.new.parents ls index a.item b.item some h.1
           (ap (λ (l : Text × ℕ). l.0) first ∙ marks ∙ sym (ap (λ (l : Text × ℕ). l.0) second)) (sym (ap (λ (l : Text × ℕ). l.1) first)) (sym (ap (λ (l : Text × ℕ). l.1) second)) w.join.ensures in
           subst (λ p. IsForest p × IsJoined start p ls (index + 1) × (index + 1 ≤ max 1 (length links))) (sym w.parents-is) (w.join.ensures.forest, joined, most)
       | else-eq w ↦
           let joined : IsJoined start c.loop-index.parents ls (index + 1) = neighbours_apart start c.loop-index.parents ls index some h.1
-          (λ e. true≢false (sym ((bytes_eq-Decides a.mark.items b.mark.items).1 (sym (ap (λ (l : Text × ℕ). l.0) first) ∙ e ∙ ap (λ (l : Text × ℕ). l.0) second)) ∙ (sym same ∙ w.if-eq.false))) in
+          (λ e. true≢false (sym ((bytes_eq-Decides a.mark.text.items b.mark.text.items).1 (sym (ap (λ (l : Text × ℕ). l.0) first) ∙ e ∙ ap (λ (l : Text × ℕ). l.0) second)) ∙ (sym same ∙ w.if-eq.false))) in
           subst (λ p. IsForest p × IsJoined start p ls (index + 1) × (index + 1 ≤ max 1 (length links))) (sym w.parents-is) (h.0, joined, most)
     ]
 

@@ -1,4 +1,4 @@
-use Rattle.std.proofs.Common.{◌≡◌, ◌∙◌, ◌&&◌, Bool, filter, not, refl, sym}
+use Rattle.std.proofs.Common.{◌≡◌, ◌≢◌, ◌∙◌, ◌&&◌, Bool, [], ap, filter, not, refl, sym, true≢false}
 use Rattle.std.specs.List.{list_all}
 use Rattle.mailmap_contacts.specs.Contacts.{answer_to, has_text}
 use Rattle.mailmap_suggestions.specs.Forms.{is_shared}
@@ -15,11 +15,13 @@ returns-else-not-contains-2 c = λ h ts ms are unnamed respelled among.
     let a = answer_in m in
     let named : Bool = list_all (λ c. has_text c.name) (filter (λ c. are_like (answer_to h.ours c) a) (contacts ts)) in
     let once : Bool = is_spelled_once h ts a.email in
+    let some : c.args.shared.now ≢ [] =
+    λ e. true≢false (sym (sym c.contains-then-has_text.ensures ∙ c.if-not-contains-2.false) ∙ ap (λ l. is_shared l a.email) e) in
     let found : c.contains.result ≡ not named = c.contains.ensures
-    ∙ unnamed_is h ts ms c.args.unnamed.now a c.folded.result are unnamed c.folded.ensures.name c.folded.ensures.email in
+    ∙ unnamed_is h ts ms c.args.unnamed.now a c.folded.result are (unnamed some) c.folded.ensures.name c.folded.ensures.email in
     let apart : c.if-not-contains.is_apart ≡ (named && once) = elim c.if-not-contains.branch [
       | then-not-contains w ↦ w.is_apart-is ∙ is_apart named once c.contains.result found w.if-not-contains.true w.contains-then-not-contains.result
-          (w.contains-then-not-contains.ensures ∙ respelled_is h ts ms c.args.respelled.now m (record { text = record { ref_ptr = (0, 0); now = a.email } }) are respelled (in_list ms m among) refl)
+          (w.contains-then-not-contains.ensures ∙ respelled_is h ts ms c.args.respelled.now m (record { text = record { ref_ptr = (0, 0); now = a.email } }) are (respelled some) (in_list ms m among) refl)
       | else-not-contains w ↦ w.is_apart-is ∙ not_apart named once c.contains.result found w.if-not-contains.false
     ] in
     apart ∙ if_shared (has_text a.email) (is_shared c.args.shared.now a.email) (named && once)
