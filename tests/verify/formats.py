@@ -46,18 +46,23 @@ def undone(text):
     return text.replace(b"%0D", b"\r").replace(b"%0A", b"\n").replace(b"%25", b"%")
 
 
+def runs_of(name):
+    """The stored cases, each with its number and the words for its contacts and mailmaps, which are files here."""
+    for number, stored in enumerate(open(HERE / name, encoding="ascii"), 1):
+        case = json.loads(stored)
+        files = [f"m{file}" for file in range(1, len(case["files"]) + 1)]
+        for file, text in zip(files, case["files"]):
+            Path(file).write_bytes(bytes.fromhex(text))
+        Path("c").write_bytes(bytes.fromhex(case.get("contacts", "")))
+        yield number, case, [*(["--contacts", "c"] if "contacts" in case else []), *files]
+
+
 def annotations(program):
     for name in "cases.jsonl", "explained.jsonl":
-        for number, stored in enumerate(open(HERE / name, encoding="ascii"), 1):
-            case = json.loads(stored)
-            files = [f"m{file}" for file in range(1, len(case["files"]) + 1)]
-            for file, text in zip(files, case["files"]):
-                Path(file).write_bytes(bytes.fromhex(text))
-            Path("c").write_bytes(bytes.fromhex(case.get("contacts", "")))
-            words = ["--contacts", "c"] if "contacts" in case else []
-            status, printed = case["with_contacts" if words else "verify"]
+        for number, case, words in runs_of(name):
+            status, printed = case["with_contacts" if "contacts" in case else "verify"]
             want = b"".join(annotation(line) + b"\n" for line in bytes.fromhex(printed).split(b"\n")[:-1])
-            wants(f"annotations of {name}:{number}", run(program, ["-f", "github", *words, *files]), status, want)
+            wants(f"annotations of {name}:{number}", run(program, ["-f", "github", *words]), status, want)
     hostile_annotations(program)
 
 
@@ -148,14 +153,8 @@ def message(found):
 def fields(program):
     counts = {}
     for name in "git.jsonl", "explained.jsonl":
-        for number, stored in enumerate(open(HERE / name, encoding="ascii"), 1):
-            case = json.loads(stored)
-            files = [f"m{file}" for file in range(1, len(case["files"]) + 1)]
-            for file, text in zip(files, case["files"]):
-                Path(file).write_bytes(bytes.fromhex(text))
-            Path("c").write_bytes(bytes.fromhex(case.get("contacts", "")))
-            words = ["--contacts", "c"] if "contacts" in case else []
-            _, printed, _ = run(program, ["-f", "json", *words, *files])
+        for number, _, words in runs_of(name):
+            _, printed, _ = run(program, ["-f", "json", *words])
             for line in printed.splitlines():
                 found = json.loads(line)
                 want, said = message(found), decoded(found["message"])

@@ -16,9 +16,10 @@ ghost use Rattle.gix_mailmap_c.specs.Notices.{ArePutWords, AreWordsBeside, AreWo
 ghost use Rattle.gix_mailmap_c.specs.Several.{names_in, texts_in};
 
 use crate::parsing::Place;
-use crate::several::{Lengths, counted_in, names_of, texts_of, unneeded_by};
+use crate::several::{Lengths, counted_in, names_of, texts_of};
 use crate::status::{OK, OUT_OF_MEMORY, TOO_SHORT};
 use mailmap_contacts::counter::Contacts;
+use mailmap_contacts::unneeded::unneeded_by;
 use mailmap_findings::remarks::Remarks;
 use mailmap_findings::verify::{Findings, Mailmaps, Verification};
 use mailmap_redundancy::Position;

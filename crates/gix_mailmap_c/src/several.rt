@@ -15,9 +15,8 @@ ghost use Rattle.gix_mailmap_c.specs.Several.{AreUnneededOf, IsReportBesideOf, I
 
 use crate::buffers::hand;
 use bstr::ByteSlice;
-use mailmap_contacts::answers::add_to_needs;
 use mailmap_contacts::counter::{ContactCounter, Contacts};
-use mailmap_findings::needs::Needs;
+use mailmap_contacts::unneeded::unneeded_by;
 use mailmap_findings::remarks::Remarks;
 use mailmap_findings::verify::{Mailmaps, Verification};
 use mailmap_findings::{needs, verify};
@@ -166,20 +165,6 @@ fn report_counted(
     let unneeded = unneeded_by(alloc, &mailmaps, counted)?;
     let (unneeded, findings) = (unneeded.as_slice(), findings.as_slice());
     report_remarks(alloc, settings, names, file, &mailmaps, unneeded, findings)
-}
-
-// The lines that no contact that was counted needs.
-pub(crate) fn unneeded_by(
-    alloc: Global,
-    mailmaps: &Mailmaps<'_, '_>,
-    counted: &Contacts,
-) -> Made<mailmap_redundancy::Position>
-    ensures { (contacts : Text) → AreContactsOf (whole_lines contacts) counted.now
-        → IfOk result (λ found. AreUnneeded mailmaps.now contacts found.items) }
-{
-    let mut needs = Needs::new(alloc, mailmaps)?;
-    add_to_needs(counted, &mut needs);
-    needs.unneeded(alloc)
 }
 
 fn report_remarks(

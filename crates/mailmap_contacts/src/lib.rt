@@ -4,5 +4,6 @@
 pub mod answers;
 pub mod folded;
 pub mod proper;
+pub mod unneeded;
 
 pub use contact_counter::{counter, laws, occurrences};

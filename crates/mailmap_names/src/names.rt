@@ -81,7 +81,7 @@ pub fn name_keys(alloc: Global, name: &[u8]) -> Result<Vec<Vec<u8>>, AllocError>
 
 /// What alike names have in common with this one: three texts at most, and none if it is empty.
 ///
-/// Of `Jane Q. Doe` these are `njane q. doe` and the keys.
+/// For `Jane Q. Doe` these are `njane q. doe` and the keys.
 pub fn name_marks(alloc: Global, name: &[u8]) -> Result<Vec<Vec<u8>>, AllocError>
     ensures { IfOk result (λ found. texts found.items ≡ spec.marks name.now) }
 {

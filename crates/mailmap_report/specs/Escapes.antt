@@ -1,7 +1,7 @@
 -- What JSON needn't escape, but controls a terminal or can't be seen.
 use Rattle.std.specs.Prelude.{ℕ, ◌/◌, ◌%◌, ◌-◌, ◌+◌, nat_lt, Bool, ◌||◌, ◌&&◌, if◌then◌else◌, List, [], ◌∷◌, ◌++◌, take, drop, Option, Some, None}
 use Rattle.bstr.specs.Utf8.{Decoded, pieces}
-use Rattle.command_line.specs.Shown.{is_control, is_hidden, last_four}
+use Rattle.command_line.specs.Shown.{is_hidden, last_four}
 
 -- `\u` and four hexadecimal digits
 abbrev pub code_unit : ℕ → List ℕ
@@ -12,8 +12,9 @@ abbrev pub escaped_char : ℕ → List ℕ
 escaped_char code = if nat_lt code 65536 then code_unit code
     else code_unit (55296 + (code - 65536) / 1024) ++ code_unit (56320 + code % 1024)
 
+-- a control character from U+007F on, or one that can't be seen or turns the direction of text
 abbrev pub is_escaped : ℕ → Bool
-is_escaped char = nat_lt 126 char && (is_control char || is_hidden char)
+is_escaped char = nat_lt 126 char && (nat_lt char 160 || is_hidden char)
 
 abbrev pub escaped_piece : Option ℕ → List ℕ → List ℕ
 escaped_piece None bytes = bytes

@@ -38,7 +38,7 @@ fn is_escaped(char: char) -> bool
     ensures { result ≡ is_escaped char }
 {
     let code = u32::from(char);
-    126 < code && ((code < 32 || (126 < code && code < 160)) || is_hidden(char))
+    126 < code && (code < 160 || is_hidden(char))
 }
 
 // Appends a character by its number.

@@ -24,8 +24,8 @@ use std::str;
 /// ```
 ///
 /// The other line that the message refers to becomes the member `at`. What the message names becomes the members `name`,
-/// `email` and `count`, and what it names second those of the member `beside`. Nothing is escaped but for JSON; `[`
-/// after `##`, which GitHub would take for a command; and what controls a terminal or can't be seen.
+/// `email` and `count`, and what it names second those of the member `beside`. Escaped are what JSON
+/// needs; `[` after `##`, which GitHub would take for a command; and what controls a terminal or can't be seen.
 #[tactic(auto, using(crate::proofs::Objects::no_float))]
 pub(crate) fn object_line(alloc: Global, notice: &Notice<'_>) -> Result<Vec<u8>, AllocError>
     ensures { IfOk result (λ line. line.items ≡ object_line (notice_of notice.now)) }

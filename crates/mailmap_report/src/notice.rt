@@ -51,7 +51,7 @@ pub struct Named<'a> {
     pub count: Option<usize>,
 }
 
-/// Of a message that names nothing.
+/// For a message that names nothing.
 pub const NO_NAME: Named<'static> = Named {
     name: None,
     email: None,

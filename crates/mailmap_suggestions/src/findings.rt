@@ -127,7 +127,7 @@ fn findings_about<'a>(
     findings_among(alloc, answers, suggestions, contacts, &seen)
 }
 
-// With how often the answers to the contacts come.
+// In no order, given how often the answers to the contacts come.
 fn findings_among<'a>(
     alloc: Global,
     answers: &Answers<'_, 'a>,

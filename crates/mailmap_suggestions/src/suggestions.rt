@@ -125,7 +125,7 @@ fn all_stages<'a>(
     Ok(found)
 }
 
-// Appends the suggestions of stages 2 and 3.
+// Appends what is suggested by names, and then by logins.
 fn push_later<'a>(
     alloc: Global,
     shared: &SharedEmails<'a>,

@@ -18,9 +18,8 @@ use command_line::failure::Failure;
 use command_line::files::FileSystem;
 use command_line::outcome::Outcome;
 use contact_input::counting::count_contacts;
-use mailmap_contacts::answers::add_to_needs;
 use mailmap_contacts::counter::Contacts;
-use mailmap_findings::needs::Needs;
+use mailmap_contacts::unneeded::unneeded_by;
 use mailmap_findings::remarks::Remarks;
 use mailmap_findings::verify::{Mailmaps, Verification};
 use mailmap_redundancy::Position;
@@ -132,20 +131,6 @@ fn print_report<W: Write>(
         findings.as_slice(),
         output,
     )
-}
-
-// The lines that no contact that was counted needs.
-fn unneeded_by(
-    alloc: Global,
-    mailmaps: &Mailmaps<'_, '_>,
-    counted: &Contacts,
-) -> Result<Vec<Position>, AllocError>
-    ensures { (taken : Text) → AreContactsOf (whole_lines taken) counted.now
-        → IfOk result (λ found. AreUnneeded mailmaps.now taken found.items) }
-{
-    let mut needs = Needs::new(alloc, mailmaps)?;
-    add_to_needs(counted, &mut needs);
-    needs.unneeded(alloc)
 }
 
 // Prints the findings in mailmaps, the lines that are unneeded, and the findings in contacts.

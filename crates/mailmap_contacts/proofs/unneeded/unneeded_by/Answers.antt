@@ -2,7 +2,7 @@ use Rattle.std.proofs.Common.{◌∙◌, ap, filter, not}
 use Rattle.mailmap_entries.proofs.Results.{if_ok_map}
 use Rattle.mailmap_findings.specs.Needs.{AreUnneeded, any_needs}
 use Rattle.mailmap_findings.specs.Positions.{whole_lines}
-use Rattle.gix_mailmap_c.proofs.several.unneeded_by.Goals as goal
+use Rattle.mailmap_contacts.proofs.unneeded.unneeded_by.Goals as goal
 
 pub returns : goal.returns
 returns c = λ text are.
