@@ -1,8 +1,8 @@
 #!/usr/bin/env python3
 """Checks that some modules don't compile.
 
-Each .txt file here is a module on gix_mailmap that must not compile, or if its second line says so a module of another
-crate. Its first line names the errors that the check must report, in the order of their lines; exactly those are
+Each .txt file here is a module on crates of the library that must not compile, or if its second line says so a module of
+one of them. Its first line names the errors that the check must report, in the order of their lines; exactly those are
 expected. All modules of a crate are checked at once, over the libraries that are built.
 """
 import re
@@ -21,8 +21,8 @@ from prove import PARTS, read_crates  # noqa: E402
 from toolchain import words  # noqa: E402
 
 CRATES = read_crates()
-# the crate of the modules that are on gix_mailmap
-CASES = "cases"
+# the crate of the modules that are of no other one, and what it uses
+CASES, USED = "cases", ("mailmap_entries", "mailmap_grammar", "mailmap_snapshot")
 
 
 class Case:
@@ -52,7 +52,7 @@ def check(name, cases):
         for case in cases:
             shutil.copy(case.file, Path(folder, "src", f"{case.name}.rt"))
         own = CRATES.get(name)
-        uses, of_kit = (own.uses, own.of_kit) if own else ([CRATES["gix_mailmap"]], [])
+        uses, of_kit = (own.uses, own.of_kit) if own else ([CRATES[each] for each in USED], [])
         command = words("check", name, "src/lib.rt", uses, of_kit)
         done = subprocess.run(command, cwd=folder, capture_output=True, text=True, timeout=600, check=False)
         return done.stdout + done.stderr

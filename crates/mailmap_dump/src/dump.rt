@@ -2,8 +2,10 @@
 
 use anyhow::{Context, Result};
 use bstr::ByteSlice;
-use gix_mailmap::actor::SignatureRef;
-use gix_mailmap::{Entry, Snapshot, parse};
+use mailmap_entries::Entry;
+use mailmap_grammar::parse;
+use mailmap_snapshot::Snapshot;
+use mailmap_snapshot::actor::SignatureRef;
 use std::alloc::{AllocError, Global};
 use std::fmt;
 

@@ -4,7 +4,8 @@
 mod dump;
 
 use anyhow::{Context, Result, bail};
-use gix_mailmap::{Snapshot, parse_ignore_errors};
+use mailmap_grammar::parse_ignore_errors;
+use mailmap_snapshot::Snapshot;
 use std::alloc::{AllocError, Global};
 use std::io::Read;
 use std::rt::Files;

@@ -147,7 +147,6 @@ impl<'p, 'a> Table<'p, 'a> {
         })
     }
 
-    #[tactic(auto, using(crate::proofs::Rows::located_mappings_more))]
     pub(crate) fn of(
         alloc: Global,
         keys: &[Key<'_>],

@@ -5,12 +5,12 @@ use crate::run::Subject;
 use crate::samples::{
     ANSWERS, CONTACTS, FAULTY, JANE, JANE_DOE, NOBODY, PARTS, TEAM, WRITTEN, team,
 };
-use gix_mailmap::actor::SignatureRef;
-use gix_mailmap::check::{self, ContactStream};
-use gix_mailmap::needs::unneeded;
-use gix_mailmap::snapshot::WriteError;
-use gix_mailmap::verify::{prune, verify};
-use gix_mailmap::{Snapshot, actor};
+use mailmap_findings::needs::unneeded;
+use mailmap_findings::verify::{prune, verify};
+use mailmap_snapshot::actor::SignatureRef;
+use mailmap_snapshot::check::{self, ContactStream};
+use mailmap_snapshot::snapshot::WriteError;
+use mailmap_snapshot::{Snapshot, actor};
 use std::alloc::{AllocError, Global};
 
 /// A snapshot that these calls are made on. None of them changes it.

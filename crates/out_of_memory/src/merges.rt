@@ -4,8 +4,9 @@ use crate::call::Call;
 use crate::run::{Run, Wrong};
 use crate::samples::{name, named};
 use crate::values::{build, clone};
-use gix_mailmap::snapshot::Source;
-use gix_mailmap::{Entry, Snapshot};
+use mailmap_entries::Entry;
+use mailmap_snapshot::Snapshot;
+use mailmap_snapshot::snapshot::Source;
 use std::alloc::Global;
 
 /// Merges entries in each way that there is, and sources.

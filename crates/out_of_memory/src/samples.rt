@@ -1,7 +1,7 @@
 //! What the calls are given.
 
-use gix_mailmap::Entry;
-use gix_mailmap::actor::SignatureRef;
+use mailmap_entries::Entry;
+use mailmap_snapshot::actor::SignatureRef;
 
 /// A mailmap with two mappings of one email: for everybody, and for one name.
 pub const TEAM: &[u8] = b"

@@ -11,12 +11,13 @@ use crate::samples::{FAULTY, JANE, NOBODY, TEAM, name, named, team};
 use crate::values::{
     build, clone, explain_mailmaps, read_mailmaps, resolve_jane, snapshot_of, verify_mailmaps,
 };
-use gix_mailmap::actor::SignatureRef;
-use gix_mailmap::explain::Explanations;
-use gix_mailmap::fold::Steps;
-use gix_mailmap::snapshot::{Source, WriteError};
-use gix_mailmap::verify::{Findings, Mailmaps, prune, verify};
-use gix_mailmap::{Entry, Snapshot, actor};
+use mailmap_entries::Entry;
+use mailmap_entries::fold::Steps;
+use mailmap_findings::explain::Explanations;
+use mailmap_findings::verify::{Findings, Mailmaps, prune, verify};
+use mailmap_snapshot::actor::SignatureRef;
+use mailmap_snapshot::snapshot::{Source, WriteError};
+use mailmap_snapshot::{Snapshot, actor};
 use std::alloc::Global;
 use std::hash::{DefaultHasher, Hash};
 

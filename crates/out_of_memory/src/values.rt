@@ -3,12 +3,13 @@
 use crate::call::Call;
 use crate::run::Run;
 use crate::samples::{HISTORY, JANE, TEAM};
-use gix_mailmap::check::ContactStream;
-use gix_mailmap::explain::Explanations;
-use gix_mailmap::snapshot::Signature;
-use gix_mailmap::verify::{Mailmaps, Verification};
-use gix_mailmap::{Entry, Snapshot};
 use mailmap_contacts::counter::{ContactCounter, Contacts};
+use mailmap_entries::Entry;
+use mailmap_findings::explain::Explanations;
+use mailmap_findings::verify::{Mailmaps, Verification};
+use mailmap_snapshot::Snapshot;
+use mailmap_snapshot::check::ContactStream;
+use mailmap_snapshot::snapshot::Signature;
 use std::alloc::{AllocError, Global};
 
 /// A snapshot of some entries.
