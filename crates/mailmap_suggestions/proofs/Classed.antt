@@ -17,8 +17,6 @@ use Rattle.contact_counter.specs.declared.tallies.Tally.{Tally as TheTally}
 use Rattle.contact_counter.proofs.Entries.{same_is}
 use Rattle.mailmap_contacts.specs.Answers.{tally_of}
 use Rattle.mailmap_contacts.specs.Contacts.{Contact, Tally, answered, has_text, same_contact, tallied}
-use Rattle.mailmap_contacts.specs.Folded.{folded_text}
-use Rattle.mailmap_contacts.specs.declared.folded.Folded.{Folded}
 use Rattle.mailmap_contacts.proofs.Steps.{mapped_more}
 use Rattle.mailmap_contacts.proofs.Tallied.{each_tallied, each_untallied}
 use Rattle.mailmap_entries.specs.Folding.{Text, folded}
@@ -28,10 +26,12 @@ use Rattle.mailmap_suggestions.specs.Classes.{AgreesOn, AreClasses, class_of}
 use Rattle.mailmap_suggestions.specs.Forests.{link_of, links_of}
 use Rattle.mailmap_suggestions.specs.Forms.{Histories}
 use Rattle.mailmap_suggestions.specs.GroupEntries.{contacts}
+use Rattle.mailmap_suggestions.specs.Keys.{key_text}
 use Rattle.mailmap_suggestions.specs.Links.{AreClassesBy, answers}
 use Rattle.mailmap_suggestions.specs.LinkViews.{AreLinksOf, AreMembers, IsFirstOf, answer_in}
 use Rattle.mailmap_suggestions.specs.Private.{keyed_by, keyed_of}
 use Rattle.mailmap_suggestions.specs.declared.classes.Link.{Link}
+use Rattle.mailmap_suggestions.specs.declared.keys.Key.{Key}
 use Rattle.mailmap_suggestions.specs.declared.members.Member.{Member}
 use Rattle.mailmap_suggestions.proofs.Distinct.{at, each, equal_bytes, same_bytes, ◌∈◌}
 
@@ -62,11 +62,11 @@ some_at [] i lt = absurd (omega (arith, lt))
 some_at (x ∷ xs) zero lt = (x, refl)
 some_at (x ∷ xs) (suc i) lt = some_at xs i (omega (arith, lt))
 
-pub keyed_push : (contacts : List TheTally) (k : ℕ) (d t : TheTally) (key : Folded) (old new : List (Folded × TheTally)) → new ≡ old ++ (key, get_or contacts k d) ∷ [] → k < length contacts
-    → t ≡ get_or contacts k t → map keyed_of new ≡ map keyed_of old ++ keyed_if true (folded_text key, tally_of t)
+pub keyed_push : (contacts : List TheTally) (k : ℕ) (d t : TheTally) (key : Key) (old new : List (Key × TheTally)) → new ≡ old ++ (key, get_or contacts k d) ∷ [] → k < length contacts
+    → t ≡ get_or contacts k t → map keyed_of new ≡ map keyed_of old ++ keyed_if true (key_text key, tally_of t)
 keyed_push contacts k d t key old new is lt t_is =
     ap (map keyed_of) is ∙ map-append keyed_of old ((key, get_or contacts k d) ∷ [])
-    ∙ ap (λ t. map keyed_of old ++ (folded_text key, tally_of t) ∷ []) (get_or_default contacts k d t lt ∙ sym t_is)
+    ∙ ap (λ t. map keyed_of old ++ (key_text key, tally_of t) ∷ []) (get_or_default contacts k d t lt ∙ sym t_is)
 
 -- one more contact
 pub class_more : (classes : List (Vec ℕ)) (contacts : List TheTally) (i : ℕ) (v : Vec ℕ) (t : TheTally) (old new : List (Text × Tally)) (b : Bool) → i < length classes → i < length contacts

@@ -1,25 +1,24 @@
 -- Groups, their counted answers and what is suggested for them, as the code makes these.
-use Rattle.std.proofs.Common.{◌≡◌, ◌∙◌, ◌+◌, ◌<◌, ◌++◌, ◌&&◌, ℕ, drop, get_or, length, Bool, false, true, not, List, [], ◌∷◌, append-nil, bytes_eq, append_assoc, ap, filter, flat_map, if◌then◌else◌, is_some, map, None, Some, refl, rules, sym, subst, Option, ◌≢◌, ◌||◌, true≢false, cond, unwrap_or, Ordering, Less, Equal, Greater, arith, Bor, option_map, IfSome, MatchOption}
+use Rattle.std.proofs.Common.{◌≡◌, ◌∙◌, ◌+◌, ◌<◌, ◌++◌, ◌&&◌, ℕ, drop, get_or, length, Bool, false, true, not, List, [], ◌∷◌, append-nil, bytes_eq, append_assoc, ap, filter, flat_map, if◌then◌else◌, is_some, map, None, Some, refl, rules, sym, subst, Option, ◌≢◌, unwrap_or, Bor, option_map, IfSome, MatchOption}
 use Rattle.std.specs.Global.{Vec}
-use Rattle.std.specs.List.{All, AllByRecursion, list_all, slice_get, filter_map, list_any, IsDistinct}
-use Rattle.std.proofs.lemmas.Bool.{and_parts, or_right}
-use Rattle.std.proofs.lemmas.List.{at_drop_more, map-append}
-use Rattle.std.proofs.lemmas.List.Elements.{All-from_recursion, filter-append, filter_agree}
+use Rattle.std.specs.List.{All, AllByRecursion, list_all, slice_get, filter_map}
+use Rattle.std.proofs.lemmas.Bool.{and_parts}
+use Rattle.std.proofs.lemmas.List.{at_drop_more}
+use Rattle.std.proofs.lemmas.List.Elements.{All-from_recursion, filter_agree}
 use Rattle.std.proofs.lemmas.List.Folds.{flat_map-map, list_all-map}
-use Rattle.std.proofs.lemmas.Grind.{flat_map-append}
 use Rattle.mailmap_entries.specs.Entries.{Mapping, mapping_of}
 use Rattle.mailmap_entries.specs.Folding.{Text, folded}
 use Rattle.mailmap_entries.specs.declared.entry.Entry.{Entry}
 use Rattle.mailmap_entries.proofs.Parts.{filter-map, all_map, all_mapped, all_weaker, filter_all, map_alike, filter-filter}
-use Rattle.mailmap_contacts.specs.Answers.{tally_of, folded_cmp, tally_at}
-use Rattle.mailmap_contacts.specs.Contacts.{Contact, Tally, answer_to, AreTallies, tallied}
+use Rattle.mailmap_contacts.specs.Answers.{tally_of, tally_at}
+use Rattle.mailmap_contacts.specs.Contacts.{Contact, Tally, answer_to}
 use Rattle.contact_counter.specs.declared.tallies.Tally.{Tally as TheTally}
-use Rattle.mailmap_contacts.proofs.Steps.{all_filtered, HasOnly, NoneBefore}
-use Rattle.mailmap_suggestions.specs.Private.{AreChangesBy, HaveEmail, HaveOneEmail, listed, IsPart, IsPlain, are_enough, contacts_of, tallies_in, HasMembers, grouped, has_key, keyed_by, keyed_of, keys, members, text_of}
+use Rattle.mailmap_contacts.proofs.Steps.{all_filtered}
+use Rattle.mailmap_suggestions.specs.Private.{AreChangesBy, HaveEmail, HaveOneEmail, listed, IsPart, IsPlain, are_enough, contacts_of, tallies_in, grouped, keyed_by, keys, members, text_of}
 use Rattle.mailmap_suggestions.specs.Forms.{Histories, are_answered, distinct, entries_for_email, entries_to, fits, is_answered, long_form, name_unless_empty, named_entries, named_form, needs_own_entry, of_old_email, plain_entries, plus, short_form}
-use Rattle.mailmap_suggestions.specs.GroupEntries.{all_entries, are_alike, are_cut, classes, contacts, contact_or_nobody, email_class, email_entries, group_entries, groups, members as class_members, nobody, proper_answer, wanted_entries}
+use Rattle.mailmap_suggestions.specs.GroupEntries.{are_alike, are_cut, classes, contacts, contact_or_nobody, group_entries, members as class_members, nobody, proper_answer, wanted_entries}
 use Rattle.mailmap_suggestions.specs.declared.changes.Changes.{Changes}
-use Rattle.mailmap_suggestions.proofs.Distinct.{all_of, distinct_push, same_bytes, all_joined, all_among, somes}
+use Rattle.mailmap_suggestions.proofs.Distinct.{all_of, same_bytes, all_joined, somes}
 use Rattle.mailmap_suggestions.proofs.Appended.{OfPlain, each_plain, each_for_email}
 use Rattle.mailmap_suggestions.proofs.Changed.{enough_is}
 use Rattle.mailmap_entries.specs.Semantics.{is_accepted, accepted}
@@ -30,84 +29,11 @@ use Rattle.mailmap_findings.specs.Positions.{located, located_lines}
 use Rattle.mailmap_grammar.specs.Lines.{mappings_of}
 use Rattle.mailmap_redundancy.specs.Redundancy.{LocatedMapping, entries, located_of}
 use Rattle.mailmap_redundancy.specs.declared.located.LocatedEntry.{LocatedEntry}
-use Rattle.mailmap_suggestions.specs.Suggestions.{Suggestion, suggestion}
-use Rattle.std.specs.Prelude.{option_to_list}
 use Rattle.std.specs.Option.{option_copied}
-use Rattle.std.specs.BTreeMap.{BTreeMap, get, is_at}
-use Rattle.std.proofs.lemmas.Cmp.{nat_list_eq_equiv, back_total, nat_cmp_total, nat_list_cmp_total, on_total, then_total}
-use Rattle.std.proofs.lemmas.Map.Text.{is_eq-slice_cmp}
 use Rattle.std.proofs.lemmas.Simd.{map-map}
-use Rattle.mailmap_contacts.specs.Folded.{folded_text}
-use Rattle.mailmap_contacts.specs.declared.folded.Folded.{Folded}
-use Rattle.std.specs.Cmp.{IsTotalOrder}
-use Rattle.std.specs.List.Sorted.{IsStrictlySortedBy, IsPermutation}
-use Rattle.std.specs.Ordering.{is_eq, is_lt, ordering_reverse}
-use Rattle.mailmap_contacts.specs.Proper.{is_preferred, preferred, preferred_of, proper}
-use Rattle.mailmap_contacts.proofs.Tallied.{distinct_tallied, one_list, same, then_eq}
-use Rattle.mailmap_suggestions.specs.Counted.{by_frequency, frequency_cmp, inserted}
-use Rattle.mailmap_entries.proofs.Joined.{never}
+use Rattle.mailmap_contacts.proofs.Tallied.{same}
 
 -- ==== groups of contacts by their keys, as the code makes them
-
--- ---- one more of them
-
--- a tally that was pushed
-pub tally_pushed : (old new : List TheTally) (t : TheTally) (ts : List Tally) → new ≡ old ++ t ∷ [] → map tally_of old ≡ ts → map tally_of new ≡ ts ++ tally_of t ∷ []
-tally_pushed old new t ts is before = ap (map tally_of) is ∙ map-append tally_of old (t ∷ []) ∙ ap (λ l. l ++ tally_of t ∷ []) before
-
-at_key : (key q : Folded) → is_at (folded_cmp key) q ≡ bytes_eq (folded_text q) (folded_text key)
-at_key key q = is_eq-slice_cmp (folded_text key) (folded_text q) ∙ nat_list_eq_equiv.symm (folded_text key) (folded_text q)
-
-key_more : (ks : List (Text × Tally)) (k : Text × Tally) (q : Text) → has_key (ks ++ k ∷ []) q ≡ (has_key ks q || bytes_eq q k.0)
-key_more [] k q = grind arith
-key_more (j ∷ ks) k q = grind (arith, key_more ks k q)
-
-member_more : (ks : List (Text × Tally)) (k : Text × Tally) (q : Text) → members (ks ++ k ∷ []) q ≡ members ks q ++ (if bytes_eq q k.0 then k.1 ∷ [] else [])
-member_more [] k q = grind arith
-member_more (j ∷ ks) k q = grind (arith, member_more ks k q)
-
-no_members : (ks : List (Text × Tally)) (q : Text) → has_key ks q ≡ false → members ks q ≡ []
-no_members [] q none = refl
-no_members (j ∷ ks) q none = grind (arith, no_members ks q)
-
--- those with a key so far, and one more
-pub group_and : (ks : List (Text × Tally)) (q : Text) (o : Option (Vec TheTally)) (v : Vec TheTally) → v.items ≡ [] → option_map tallies_in o ≡ (if has_key ks q then Some (members ks q) else None)
-    → tallies_in (unwrap_or o v) ≡ members ks q
-group_and ks q None v none is = grind (arith, no_members ks q)
-group_and ks q (Some g) v none is = grind (arith, no_members ks q)
-
--- a contact joins those with its key
-pub members_more : (ks : List (Text × Tally)) (key : Folded) (t : Tally) (m left n : BTreeMap Folded (Vec TheTally)) (v : Vec TheTally) → HasMembers (has_key ks) ks m
-    → ((q : Folded) → get folded_cmp left q ≡ cond (is_at (folded_cmp key) q) None (get folded_cmp m q)) → tallies_in v ≡ members ks (folded_text key) ++ t ∷ []
-    → ((q : Folded) → get folded_cmp n q ≡ cond (is_at (folded_cmp key) q) (Some v) (get folded_cmp left q))
-    → HasMembers (has_key (ks ++ (folded_text key, t) ∷ [])) (ks ++ (folded_text key, t) ∷ []) n
-members_more ks key t m left n v are removed v_is put q = search (rules, put q, removed q, at_key key q, are q, member_more, key_more, same_bytes, v_is, or_right, append-nil)
-
--- ---- groups in the order of first occurrence
-
--- the groups of these keys were taken out of the map
-pub record AreTaken (ks done : List (Text × Tally)) (left : BTreeMap Folded (Vec TheTally)) (found : List (Vec TheTally)) : Type 0 where
-  pub groups : map tallies_in found ≡ map (members ks) (distinct (keys done))
-  pub rest : HasMembers (λ q. not (has_key done q) && has_key ks q) ks left
-
-pub taken_more : (ks done : List (Text × Tally)) (left n : BTreeMap Folded (Vec TheTally)) (found : List (Vec TheTally)) (key : Folded) (t : Tally) (o : Option (Vec TheTally))
-    → AreTaken ks done left found → has_key ks (folded_text key) ≡ true
-    → ((q : Folded) → get folded_cmp n q ≡ cond (is_at (folded_cmp key) q) None (get folded_cmp left q)) → o ≡ get folded_cmp left key
-    → AreTaken ks (done ++ (folded_text key, t) ∷ []) n (found ++ option_to_list o)
-taken_more ks done left n found key t o taken among removed is = record {
-  groups = map-append tallies_in found (option_to_list o) ∙ (λ i. taken.groups i ++ one o (has_key done (folded_text key)) (ap (option_map tallies_in) is ∙ taken.rest key
-      ∙ ap (λ b. if not (has_key done (folded_text key)) && b then Some (members ks (folded_text key)) else None) among) i)
-      ∙ sym (map-append (members ks) (distinct (keys done)) (if has_key done (folded_text key) then [] else folded_text key ∷ []))
-      ∙ ap (map (members ks)) (sym (distinct_push (keys done) (folded_text key)) ∙ ap distinct (sym (map-append (λ (k : Text × Tally). k.0) done ((folded_text key, t) ∷ []))));
-  rest = λ q. grind (arith, removed q, taken.rest q, at_key key q, key_more done (folded_text key, t) (folded_text q));
-}
-  where
-    one : (o : Option (Vec TheTally)) (b : Bool) → option_map tallies_in o ≡ (if not b && true then Some (members ks (folded_text key)) else None)
-        → map tallies_in (option_to_list o) ≡ map (members ks) (if b then [] else folded_text key ∷ [])
-    one o b is = search rules
-
-pub key_among : (keyed : List (Folded × TheTally)) → AllByRecursion (λ k. has_key (map keyed_of keyed) (folded_text k.0) ≡ true) keyed
-key_among keyed = all_map keyed_of (λ k. has_key (map keyed_of keyed) k.0 ≡ true) keyed (all_among (λ (k : Text × Tally). k.0) (map keyed_of keyed))
 
 -- ==== the groups that are wanted
 

@@ -1,10 +1,11 @@
 -- Contacts with their answers, one more at a time, and which of the answers take part.
-use Rattle.std.proofs.Common.{◌≡◌, ◌∙◌, ◌+◌, ◌<◌, ◌++◌, ◌&&◌, ◌||◌, ◌==◌, ℕ, Bool, true, false, cond, not, List, [], ◌∷◌, Option, None, Some, Bor, ap, append-nil, arith, bytes_eq, filter, get_or, length, map, option_copied, refl, subst, sym, take, true≢false, unwrap_or}
+use Rattle.std.proofs.Common.{◌≡◌, ◌∙◌, ◌+◌, ◌<◌, ◌++◌, ◌&&◌, ◌||◌, ◌==◌, ℕ, Bool, true, false, cond, not, List, [], ◌∷◌, Option, None, Some, Bor, Ordering, ap, append-nil, arith, bytes_eq, filter, get_or, length, map, option_copied, refl, subst, sym, take, true≢false, unwrap_or}
 use Rattle.std.specs.Prelude.{position}
 use Rattle.std.specs.BTreeMap.{BTreeMap, get, is_at}
 use Rattle.std.specs.BTreeSet.{BTreeSet, contains}
 use Rattle.std.specs.List.{AllByRecursion, Contains, list_all, list_any}
 use Rattle.std.specs.Option.{option_or}
+use Rattle.std.specs.Ordering.{ordering_then}
 use Rattle.std.proofs.lemmas.Bool.{eqb-true}
 use Rattle.std.proofs.lemmas.Cmp.{nat_list_eq_equiv}
 use Rattle.std.proofs.lemmas.List.{length-map, length-take, map-append}
@@ -25,17 +26,44 @@ use Rattle.mailmap_entries.specs.Semantics.{first}
 use Rattle.mailmap_entries.proofs.Parts.{all_append, all_map, all_mapped, all_weaker, filter-map, list_any-map}
 use Rattle.mailmap_suggestions.specs.Forms.{Histories}
 use Rattle.mailmap_suggestions.specs.GroupEntries.{contacts}
+use Rattle.mailmap_suggestions.specs.Keys.{key_cmp as email_cmp, key_text}
 use Rattle.mailmap_suggestions.specs.Links.{are_like, has_email, is_spelled_once}
 use Rattle.mailmap_suggestions.specs.LinkViews.{AreMembers, AreRespelled, AreUnnamed, IsFirstOf, answer_in, contact_in, folded_answer, pair_cmp}
+use Rattle.mailmap_suggestions.specs.declared.keys.Key.{Key}
 use Rattle.mailmap_suggestions.specs.declared.members.Member.{Member}
 use Rattle.mailmap_suggestions.proofs.Distinct.{◌∈◌, at, each, equal_bytes, in_filter}
 use Rattle.mailmap_suggestions.proofs.Spelled.{AreSpelled, any_alike, any_of_email, any_two, all_pass, differ_any, each_alike, each_passes, each_push, folded_again, is_unlike, firsts_more, not_all, others_more, position_push, same_bools, spellings_of, unwrap_now}
 
 -- ---- contacts with their answers
 
+and_false : (b : Bool) → false ≡ (b && false)
+and_false true = refl
+and_false false = refl
+
+-- an answer after its email
+abbrev AnswerKey : Type 0
+AnswerKey = Key × (Bor Text × Bor Text)
+
+abbrev answer_cmp : AnswerKey → AnswerKey → Ordering
+answer_cmp a b = ordering_then (email_cmp a.0 b.0) (key_cmp answer_key a.1 b.1)
+
+abbrev IsWithEmail : AnswerKey → Type 0
+IsWithEmail key = key_text key.0 ≡ folded (answer_key key.1).email
+
 -- the index of the first contact with each answer
-abbrev pub AreFirsts : List Member → BTreeMap (Bor Text × Bor Text) ℕ → Type 0
-AreFirsts ms firsts = (key : Bor Text × Bor Text) → get (key_cmp answer_key) firsts key ≡ position (λ b. same_contact (answer_in b) (answer_key key)) ms
+abbrev pub AreFirsts : List Member → BTreeMap AnswerKey ℕ → Type 0
+AreFirsts ms firsts = (key : AnswerKey) → IsWithEmail key → get answer_cmp firsts key ≡ position (λ b. same_contact (answer_in b) (answer_key key.1)) ms
+
+same_answer : (key q : AnswerKey) → IsWithEmail key → IsWithEmail q → is_at (answer_cmp key) q ≡ same_contact (answer_key key.1) (answer_key q.1)
+same_answer key q of_key of_q =
+    then_eq (email_cmp key.0 q.0) (key_cmp answer_key key.1 q.1)
+    ∙ (λ i. is_eq-slice_cmp (key_text key.0) (key_text q.0) i && same_by_cmp (answer_key key.1) (answer_key q.1) i)
+    ∙ by (same_contact (answer_key key.1) (answer_key q.1)) refl
+  where
+    by : (b : Bool) → same_contact (answer_key key.1) (answer_key q.1) ≡ b → (bytes_eq (key_text key.0) (key_text q.0) && b) ≡ b
+    by true is = ap (λ t. t && true) (equal_bytes (key_text key.0) (key_text q.0)
+        (of_key ∙ ap (λ (a : Contact). folded a.email) (same_is (answer_key key.1) (answer_key q.1) is) ∙ sym of_q))
+    by false is = sym (and_false (bytes_eq (key_text key.0) (key_text q.0)))
 
 some_at : (o : Option ℕ) (n : ℕ) → Some (unwrap_or o n) ≡ option_or o (Some n)
 some_at None n = refl
@@ -45,25 +73,25 @@ or_nothing : (o : Option ℕ) → o ≡ option_or o None
 or_nothing None = refl
 or_nothing (Some i) = refl
 
-index_more : (ms : List Member) (m : Member) (key : Bor Text × Bor Text) (old new : BTreeMap (Bor Text × Bor Text) ℕ) (at : ℕ)
-    → answer_in m ≡ answer_key key → AreFirsts ms old → at ≡ unwrap_or (get (key_cmp answer_key) old key) (length ms)
-    → ((q : Bor Text × Bor Text) → get (key_cmp answer_key) new q ≡ cond (is_at (key_cmp answer_key key) q) (Some at) (get (key_cmp answer_key) old q))
+index_more : (ms : List Member) (m : Member) (key : AnswerKey) (old new : BTreeMap AnswerKey ℕ) (at : ℕ) → IsWithEmail key
+    → answer_in m ≡ answer_key key.1 → AreFirsts ms old → at ≡ unwrap_or (get answer_cmp old key) (length ms)
+    → ((q : AnswerKey) → get answer_cmp new q ≡ cond (is_at (answer_cmp key) q) (Some at) (get answer_cmp old q))
     → AreFirsts (ms ++ m ∷ []) new
-index_more ms m key old new at mine are at_is put q =
-    put q ∙ ap (λ t. cond t (Some at) (get (key_cmp answer_key) old q)) (same_by_cmp (answer_key key) (answer_key q))
-    ∙ by (same_contact (answer_key key) (answer_key q)) refl
-    ∙ ap (λ a. option_or (position (λ b. same_contact (answer_in b) (answer_key q)) ms) (cond (same_contact a (answer_key q)) (Some (length ms)) None)) (sym mine)
-    ∙ sym (position_push (λ b. same_contact (answer_in b) (answer_key q)) ms m)
+index_more ms m key old new at of_key mine are at_is put q of_q =
+    put q ∙ ap (λ t. cond t (Some at) (get answer_cmp old q)) (same_answer key q of_key of_q)
+    ∙ by (same_contact (answer_key key.1) (answer_key q.1)) refl
+    ∙ ap (λ a. option_or (position (λ b. same_contact (answer_in b) (answer_key q.1)) ms) (cond (same_contact a (answer_key q.1)) (Some (length ms)) None)) (sym mine)
+    ∙ sym (position_push (λ b. same_contact (answer_in b) (answer_key q.1)) ms m)
   where
-    by : (t : Bool) → same_contact (answer_key key) (answer_key q) ≡ t → cond t (Some at) (get (key_cmp answer_key) old q)
-        ≡ option_or (position (λ b. same_contact (answer_in b) (answer_key q)) ms) (cond (same_contact (answer_key key) (answer_key q)) (Some (length ms)) None)
+    by : (t : Bool) → same_contact (answer_key key.1) (answer_key q.1) ≡ t → cond t (Some at) (get answer_cmp old q)
+        ≡ option_or (position (λ b. same_contact (answer_in b) (answer_key q.1)) ms) (cond (same_contact (answer_key key.1) (answer_key q.1)) (Some (length ms)) None)
     by true is =
-        ap (λ n. Some n) (at_is ∙ ap (λ o. unwrap_or o (length ms)) (are key)) ∙ some_at (position (λ b. same_contact (answer_in b) (answer_key key)) ms) (length ms)
-        ∙ ap (λ a. option_or (position (λ b. same_contact (answer_in b) a) ms) (Some (length ms))) (same_is (answer_key key) (answer_key q) is)
-        ∙ ap (λ t. option_or (position (λ b. same_contact (answer_in b) (answer_key q)) ms) (cond t (Some (length ms)) None)) (sym is)
+        ap (λ n. Some n) (at_is ∙ ap (λ o. unwrap_or o (length ms)) (are key of_key)) ∙ some_at (position (λ b. same_contact (answer_in b) (answer_key key.1)) ms) (length ms)
+        ∙ ap (λ a. option_or (position (λ b. same_contact (answer_in b) a) ms) (Some (length ms))) (same_is (answer_key key.1) (answer_key q.1) is)
+        ∙ ap (λ t. option_or (position (λ b. same_contact (answer_in b) (answer_key q.1)) ms) (cond t (Some (length ms)) None)) (sym is)
     by false is =
-        are q ∙ or_nothing (position (λ b. same_contact (answer_in b) (answer_key q)) ms)
-        ∙ ap (λ t. option_or (position (λ b. same_contact (answer_in b) (answer_key q)) ms) (cond t (Some (length ms)) None)) (sym is)
+        are q of_q ∙ or_nothing (position (λ b. same_contact (answer_in b) (answer_key q.1)) ms)
+        ∙ ap (λ t. option_or (position (λ b. same_contact (answer_in b) (answer_key q.1)) ms) (cond t (Some (length ms)) None)) (sym is)
 
 pub members_more : (h : Histories) (ts : List Tally) (t : Tally) (ms : List Member) (m : Member) (o : Option ℕ) → AreMembers h ts ms
     → contact_in m ≡ t → tally_of m.answer ≡ answered h.ours t → o ≡ position (λ b. same_contact (answer_in b) (answer_in m)) ms
@@ -83,21 +111,21 @@ members_more h ts t ms m o are contact answer found first is_first = record {
   is_first = each_push (λ i x. x.is_first ≡ (x.first == i)) ms m are.is_first is_first;
 }
 
-pub member_pushed : (h : Histories) (cs : List TheTally) (k : ℕ) (d : TheTally) (ms all : List Member) (m : Member) (firsts new : BTreeMap (Bor Text × Bor Text) ℕ)
+pub member_pushed : (h : Histories) (cs : List TheTally) (k : ℕ) (d : TheTally) (ms all : List Member) (m : Member) (key : Key) (firsts new : BTreeMap AnswerKey ℕ)
     → k < length cs → AreMembers h (map tally_of (take k cs)) ms → AreFirsts ms firsts → all ≡ ms ++ m ∷ []
-    → contact_in m ≡ tally_of (get_or cs k d) → tally_of m.answer ≡ answered h.ours (tally_of (get_or cs k d))
-    → m.first ≡ unwrap_or (get (key_cmp answer_key) firsts (m.answer.name, m.answer.email)) k → m.is_first ≡ (m.first == k)
-    → ((q : Bor Text × Bor Text) → get (key_cmp answer_key) new q
-    ≡ cond (is_at (key_cmp answer_key (m.answer.name, m.answer.email)) q) (Some m.first) (get (key_cmp answer_key) firsts q))
+    → contact_in m ≡ tally_of (get_or cs k d) → tally_of m.answer ≡ answered h.ours (tally_of (get_or cs k d)) → key_text key ≡ folded m.answer.email.now
+    → m.first ≡ unwrap_or (get answer_cmp firsts (key, (m.answer.name, m.answer.email))) k → m.is_first ≡ (m.first == k)
+    → ((q : AnswerKey) → get answer_cmp new q
+    ≡ cond (is_at (answer_cmp (key, (m.answer.name, m.answer.email))) q) (Some m.first) (get answer_cmp firsts q))
     → AreMembers h (map tally_of (take (k + 1) cs)) all × AreFirsts all new
-member_pushed h cs k d ms all m firsts new lt are found all_is contact answer first is_first put =
+member_pushed h cs k d ms all m key firsts new lt are found all_is contact answer of_key first is_first put =
     let count : length ms ≡ k = omega (arith, lt, length-map ms contact_in, ap length are.contacts, length-map (take k cs) tally_of, length-take k cs) in
-    let first_is : m.first ≡ unwrap_or (get (key_cmp answer_key) firsts (m.answer.name, m.answer.email)) (length ms) =
-    first ∙ ap (unwrap_or (get (key_cmp answer_key) firsts (m.answer.name, m.answer.email))) (sym count) in (
+    let first_is : m.first ≡ unwrap_or (get answer_cmp firsts (key, (m.answer.name, m.answer.email))) (length ms) =
+    first ∙ ap (unwrap_or (get answer_cmp firsts (key, (m.answer.name, m.answer.email)))) (sym count) in (
       subst (λ ts. AreMembers h ts all) (sym (mapped_more tally_of cs k d lt)) (subst (AreMembers h (map tally_of (take k cs) ++ tally_of (get_or cs k d) ∷ [])) (sym all_is)
-          (members_more h (map tally_of (take k cs)) (tally_of (get_or cs k d)) ms m (get (key_cmp answer_key) firsts (m.answer.name, m.answer.email)) are contact answer
-          (found (m.answer.name, m.answer.email)) first_is (is_first ∙ ap (λ n. m.first == n) (sym count)))),
-      subst (λ l. AreFirsts l new) (sym all_is) (index_more ms m (m.answer.name, m.answer.email) firsts new m.first refl found first_is put),
+          (members_more h (map tally_of (take k cs)) (tally_of (get_or cs k d)) ms m (get answer_cmp firsts (key, (m.answer.name, m.answer.email))) are contact answer
+          (found (key, (m.answer.name, m.answer.email)) of_key) first_is (is_first ∙ ap (λ n. m.first == n) (sym count)))),
+      subst (λ l. AreFirsts l new) (sym all_is) (index_more ms m (key, (m.answer.name, m.answer.email)) firsts new m.first of_key refl found first_is put),
     )
 
 -- the answer of each is that to its contact
@@ -129,10 +157,6 @@ or_false false = refl
 and_true : (b : Bool) → b ≡ (b && true)
 and_true true = refl
 and_true false = refl
-
-and_false : (b : Bool) → false ≡ (b && false)
-and_false true = refl
-and_false false = refl
 
 pub is_pair : (key q : Folded × Folded) (a : Contact) → folded_text key.0 ≡ folded a.name → folded_text key.1 ≡ folded a.email
     → is_at (pair_cmp key) q ≡ are_like a (folded_answer q)

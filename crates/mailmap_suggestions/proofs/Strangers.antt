@@ -1,10 +1,10 @@
 -- Emails that several people share, as the code finds them.
-use Rattle.std.proofs.Common.{◌≡◌, ◌∙◌, ◌+◌, ◌-◌, ◌<◌, ◌≤◌, ◌⊎◌, ◌++◌, ◌||◌, ℕ, Bool, true, false, cond, List, [], ◌∷◌, append-nil, ap, arith, bytes_eq, drop, filter, flat_map, fold, get_or, ◌&&◌, not, None, Some, Option, option_copied, is_none, slice_get, if◌then◌else◌, length, map, min, refl, sym, take, ⊎_elim, true≢false, Bor, Ordering}
+use Rattle.std.proofs.Common.{◌≡◌, ◌∙◌, ◌+◌, ◌<◌, ◌≤◌, ◌⊎◌, ◌++◌, ◌||◌, ℕ, Bool, true, false, cond, List, [], ◌∷◌, append-nil, ap, arith, bytes_eq, drop, filter, flat_map, fold, get_or, ◌&&◌, not, None, Some, Option, option_copied, is_none, slice_get, if◌then◌else◌, length, map, min, refl, rules, sym, take, ⊎_elim, true≢false, Bor, Ordering}
 use Rattle.std.specs.Prelude.{nat_le}
 use Rattle.std.specs.BTreeSet.{BTreeSet, contains}
 use Rattle.std.specs.BTreeMap.{is_at}
 use Rattle.std.specs.Cmp.Lexicographic.{slice_cmp}
-use Rattle.std.specs.List.{AllByRecursion, list_any}
+use Rattle.std.specs.List.{AllByRecursion, list_all, list_any}
 use Rattle.std.specs.Ordering.{nat_cmp}
 use Rattle.std.proofs.lemmas.Bool.{cases_lt, le-leb, lt-leb}
 use Rattle.std.proofs.lemmas.Cmp.{nat_list_eq_equiv}
@@ -26,6 +26,12 @@ use Rattle.mailmap_suggestions.specs.Private.{contacts_of}
 use Rattle.mailmap_names.specs.Keys.{is_related}
 use Rattle.mailmap_names.specs.declared.names.Name.{Name}
 use Rattle.mailmap_suggestions.proofs.Distinct.{all_of, distinct_push, same_bytes}
+
+-- ---- entries without old names
+
+pub all_kept : {X : Type 0} (p : X → Bool) (xs : List X) → list_all p xs ≡ true → filter p xs ≡ xs
+all_kept p [] all = refl
+all_kept p (x ∷ xs) all = search (rules, all_kept p xs)
 
 -- ---- sets of texts
 

@@ -1,6 +1,6 @@
 -- Contacts in groups, and what entries for one old email change when they are appended, as the code has them.
-use Rattle.std.specs.Prelude.{◌≡◌, Bool, if◌then◌else◌, List, None, Some, map, filter, bytes_eq, option_map, ◌&&◌, true}
-use Rattle.std.specs.Prelude.{is_some, Option, unwrap_or}
+use Rattle.std.specs.Prelude.{◌≡◌, ◌&&◌, ◌++◌, ℕ, zero, suc, Bool, true, if◌then◌else◌, List, [], ◌∷◌, None, Some, map}
+use Rattle.std.specs.Prelude.{Option, bytes_eq, filter, is_some, option_map, unwrap_or}
 use Rattle.std.specs.BTreeMap.{BTreeMap, get}
 use Rattle.std.specs.Global.{Vec}
 use Rattle.std.specs.List.{list_any, AllByRecursion}
@@ -11,6 +11,7 @@ use Rattle.mailmap_contacts.specs.Folded.{folded_text}
 use Rattle.contact_counter.specs.declared.tallies.Tally.{Tally as TheTally}
 use Rattle.mailmap_contacts.specs.declared.folded.Folded.{Folded}
 use Rattle.mailmap_suggestions.specs.GroupEntries.{contacts}
+use Rattle.mailmap_suggestions.specs.Keys.{key_cmp, key_text}
 use Rattle.mailmap_suggestions.specs.Forms.{Histories, distinct, git_answer_to, name_unless_empty, own_key, replaced}
 use Rattle.std.specs.BTreeSet.{contains}
 use Rattle.std.specs.Option.{option_copied, option_to_list}
@@ -19,6 +20,7 @@ use Rattle.mailmap_entries.specs.Semantics.{Fields, given_fields, is_accepted, k
 use Rattle.mailmap_entries.specs.declared.entry.Entry.{Entry}
 use Rattle.mailmap_redundancy.specs.Summaries.{fields_of}
 use Rattle.mailmap_suggestions.specs.declared.changes.Changes.{Changes}
+use Rattle.mailmap_suggestions.specs.declared.keys.Key.{Key}
 
 -- the class of the answer to a contact
 abbrev pub text_of : (Contact → Text) → Histories → Tally → Text
@@ -29,8 +31,8 @@ tallies_in group = map tally_of group.items
 
 -- ---- contacts with keys
 
-abbrev pub keyed_of : Folded × TheTally → Text × Tally
-keyed_of k = (folded_text k.0, tally_of k.1)
+abbrev pub keyed_of : Key × TheTally → Text × Tally
+keyed_of k = (key_text k.0, tally_of k.1)
 
 abbrev pub keyed_by : (Tally → Text) → List Tally → List (Text × Tally)
 keyed_by text ts = map (λ t. (text t, t)) ts
@@ -49,10 +51,20 @@ members ks key = map (λ k. k.1) (filter (λ k. bytes_eq key k.0) ks)
 abbrev pub grouped : List (Text × Tally) → List (List Tally)
 grouped ks = map (members ks) (distinct (keys ks))
 
--- the map has those with a key for each key that passes a test
-abbrev pub HasMembers : (Text → Bool) → List (Text × Tally) → BTreeMap Folded (Vec TheTally) → Type 0
-HasMembers passes ks groups = (key : Folded) → option_map tallies_in (get folded_cmp groups key)
-    ≡ (if passes (folded_text key) then Some (members ks (folded_text key)) else None)
+-- the place of a key among some
+abbrev pub place_of : Text → List Text → Option ℕ
+place_of key [] = None
+place_of key (k ∷ ks) = if bytes_eq key k then Some 0 else option_map suc (place_of key ks)
+
+-- a map has the places of these keys
+abbrev pub ArePlaces : List Text → BTreeMap Key ℕ → Type 0
+ArePlaces ks places = (key : Key) → get key_cmp places key ≡ place_of (key_text key) ks
+
+-- with one more contact in the group with a number, or in a new group after the last
+abbrev pub with_member : ℕ → Tally → List (List Tally) → List (List Tally)
+with_member number t [] = (t ∷ []) ∷ []
+with_member zero t (g ∷ gs) = (g ++ t ∷ []) ∷ gs
+with_member (suc number) t (g ∷ gs) = g ∷ with_member number t gs
 
 -- ==== contacts with one old email
 

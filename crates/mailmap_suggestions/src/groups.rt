@@ -1,18 +1,17 @@
 //! Puts the contacts of a history into groups.
-ghost use Rattle.std.specs.Prelude.{◌≡◌, ◌++◌, [], All, IfOk, OnOk, bytes_eq, filter, length, map, not, option_to_list};
+ghost use Rattle.std.specs.Prelude.{◌≡◌, ◌≤◌, [], All, IfOk, OnOk, bytes_eq, filter, length, map, not};
 ghost use Rattle.mailmap_entries.specs.Folding.{Text, folded};
 ghost use Rattle.mailmap_contacts.specs.Contacts.{Contact, Tally as ATally};
 ghost use Rattle.mailmap_contacts.specs.Answers.{tally_of};
-ghost use Rattle.mailmap_suggestions.specs.Private.{contacts_of, HasMembers, IsPart, grouped, has_key, keyed_by};
-ghost use Rattle.mailmap_suggestions.specs.Private.{keyed_of};
-ghost use Rattle.mailmap_suggestions.specs.Private.{tallies_in, text_of};
+ghost use Rattle.mailmap_suggestions.specs.Private.{contacts_of, IsPart, grouped, keyed_by, keyed_of, tallies_in};
+ghost use Rattle.mailmap_suggestions.specs.Private.{text_of, with_member};
 ghost use Rattle.mailmap_suggestions.specs.Suggestions.{email_key};
 ghost use Rattle.mailmap_suggestions.specs.Forms.{distinct, of_old_email};
 ghost use Rattle.mailmap_suggestions.specs.GroupEntries.{are_alike, contacts, groups};
 
 use crate::answers::Answers;
+use crate::keys::{Key, first_value};
 use mailmap_contacts::answers::Tally;
-use mailmap_contacts::folded::Folded;
 use mailmap_contacts::proper::has_text;
 use std::alloc::{AllocError, Global};
 use std::collections::BTreeMap;
@@ -60,7 +59,7 @@ fn by_class<'k, 'a>(
     alloc: Global,
     contacts: &[Tally<'a>],
     classes: &'k [Vec<u8>],
-) -> Result<Vec<(Folded<'k>, Tally<'a>)>, AllocError>
+) -> Result<Vec<(Key<'k>, Tally<'a>)>, AllocError>
     requires { length classes.now ≡ length contacts.now }
     ensures { (text : ATally → Text) → map (λ v. folded v.items) classes.now ≡ map text (map tally_of contacts.now)
         → IfOk result (λ keyed. map keyed_of keyed.items
@@ -70,7 +69,7 @@ fn by_class<'k, 'a>(
     for (index, contact) in contacts.iter().enumerate() {
         let text = classes[index].as_slice();
         if has_text(text) {
-            keyed.push((Folded { text }, *contact))?;
+            keyed.push((Key::new(text), *contact))?;
         }
     }
     Ok(keyed)
@@ -93,12 +92,7 @@ pub(crate) fn by_old_email<'a>(alloc: Global, group: &[Tally<'a>]) -> Result<Gro
 {
     let mut keyed = Vec::with_capacity(alloc, group.len())?;
     for contact in group {
-        keyed.push((
-            Folded {
-                text: contact.email,
-            },
-            *contact,
-        ))?;
+        keyed.push((Key::new(contact.email), *contact))?;
     }
     grouped(alloc, &keyed)
 }
@@ -108,7 +102,7 @@ fn by_email<'a>(
     alloc: Global,
     answers: &Answers<'_, 'a>,
     contacts: &[Tally<'a>],
-) -> Result<Vec<(Folded<'a>, Tally<'a>)>, AllocError>
+) -> Result<Vec<(Key<'a>, Tally<'a>)>, AllocError>
     ensures { IfOk result (λ keyed. map keyed_of keyed.items
         ≡ keyed_by (text_of email_key answers.now)
         (filter (λ t. not (bytes_eq (text_of email_key answers.now t) [])) (map tally_of contacts.now))) }
@@ -117,48 +111,39 @@ fn by_email<'a>(
     for contact in contacts {
         let text = answers.ours(contact).email;
         if has_text(text) {
-            keyed.push((Folded { text }, *contact))?;
+            keyed.push((Key::new(text), *contact))?;
         }
     }
     Ok(keyed)
 }
 
-// A group for each key, in the order of first occurrence: `remove` returns the group at the first contact with its key,
-// and nothing at later ones.
-fn grouped<'k, 'a>(
-    alloc: Global,
-    keyed: &[(Folded<'k>, Tally<'a>)],
-) -> Result<Groups<'a>, AllocError>
+// A group for each key, in the order of first occurrence. A new key gets the next number.
+fn grouped<'k, 'a>(alloc: Global, keyed: &[(Key<'k>, Tally<'a>)]) -> Result<Groups<'a>, AllocError>
     ensures { IfOk result (λ groups. map tallies_in groups.items ≡ grouped (map keyed_of keyed.now)) }
 {
-    let mut by_key = by_key(alloc, keyed)?;
+    let mut numbers = BTreeMap::new(alloc);
     let mut groups = Vec::new(alloc);
-    for (key, _) in keyed {
-        push_group(&mut groups, by_key.remove(key))?;
-    }
-    Ok(groups)
-}
-
-fn push_group<'a>(groups: &mut Groups<'a>, group: Option<Vec<Tally<'a>>>) -> Result<(), AllocError>
-    ensures { OnOk result (groups.new.items ≡ groups.old.items ++ option_to_list group.entry) }
-{
-    if let Some(group) = group {
-        groups.push(group)?;
-    }
-    Ok(())
-}
-
-fn by_key<'k, 'a>(
-    alloc: Global,
-    keyed: &[(Folded<'k>, Tally<'a>)],
-) -> Result<BTreeMap<Folded<'k>, Vec<Tally<'a>>>, AllocError>
-    ensures { IfOk result (HasMembers (has_key (map keyed_of keyed.now)) (map keyed_of keyed.now)) }
-{
-    let mut groups = BTreeMap::new(alloc);
     for (key, contact) in keyed {
-        let mut group = groups.remove(key).unwrap_or(Vec::new(alloc));
-        group.push(*contact)?;
-        groups.insert(*key, group)?;
+        let number = first_value(&mut numbers, *key, groups.len())?;
+        add_to(alloc, &mut groups, number, contact)?;
     }
     Ok(groups)
+}
+
+// Adds a contact to the group with a number, which may be a new one.
+fn add_to<'a>(
+    alloc: Global,
+    groups: &mut Groups<'a>,
+    number: usize,
+    contact: &Tally<'a>,
+) -> Result<(), AllocError>
+    requires { number ≤ length groups.old.items }
+    ensures { OnOk result (map tallies_in groups.new.items
+        ≡ with_member number (tally_of contact.now) (map tallies_in groups.old.items)) }
+{
+    if number == groups.len() {
+        groups.push(Vec::new(alloc))?;
+    }
+    groups[number].push(*contact)?;
+    Ok(())
 }

@@ -11,6 +11,7 @@ mod git_contacts;
 mod groups;
 mod histories;
 mod holders;
+mod keys;
 pub mod kinds;
 pub mod laws;
 mod links;

@@ -168,13 +168,13 @@ impl<'m, 'a> LoginKeys<'m, 'a> {
     fn is_login_of_another(&self, key: &Mark, answer: &Tally<'a>) -> bool
         ensures { result ≡ is_login_in self.now (tally_of answer.now).contact key.now.text.items }
     {
-        !self.first_names.are_several(key) && self.logins.has_another(key, answer)
+        self.logins.has_another(key, answer) && !self.first_names.are_several(key)
     }
 
     fn is_name_of_another(&self, key: &Mark, answer: &Tally<'a>) -> bool
         ensures { result ≡ is_name_in self.now (tally_of answer.now).contact key.now.text.items }
     {
-        !self.first_names.are_several(key) && self.names.has_another(key, answer)
+        self.names.has_another(key, answer) && !self.first_names.are_several(key)
     }
 
     /// The first login that links answers of a group: as the answers first come, an answer's own email before those of

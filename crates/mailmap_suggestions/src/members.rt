@@ -12,6 +12,7 @@ ghost use Rattle.mailmap_suggestions.specs.Links.{takes_part};
 ghost use Rattle.mailmap_suggestions.specs.declared.members.Member.{Member as AMember};
 
 use crate::answers::Answers;
+use crate::keys::{Key, first_value};
 use crate::shared::SharedEmails;
 use mailmap_contacts::answers::Tally;
 use mailmap_contacts::folded::Folded;
@@ -42,9 +43,8 @@ pub(crate) fn members_of<'c, 'a>(
     let mut members = Vec::with_capacity(alloc, contacts.len())?;
     for (index, contact) in contacts.iter().enumerate() {
         let answer = answers.ours(contact);
-        let key = (answer.name, answer.email);
-        let first = firsts.get(&key).copied().unwrap_or(index);
-        firsts.insert(key, first)?;
+        let key = (Key::new(answer.email), (answer.name, answer.email));
+        let first = first_value(&mut firsts, key, index)?;
         members.push(Member {
             contact,
             answer,

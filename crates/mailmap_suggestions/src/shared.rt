@@ -1,7 +1,7 @@
 //! The emails that several people share.
 ghost use Rattle.std.specs.Prelude.{◌≡◌, ◌==◌, ◌++◌, ◌∷◌, [], ◌≤◌, List, IfOk, OnOk, if◌then◌else◌};
 ghost use Rattle.std.specs.Prelude.{is_none, length, map, take};
-ghost use Rattle.std.specs.List.{list_any};
+ghost use Rattle.std.specs.List.{list_all, list_any};
 ghost use Rattle.mailmap_entries.specs.Entries.{mapping_of};
 ghost use Rattle.mailmap_entries.specs.Folding.{Text};
 ghost use Rattle.mailmap_names.specs.Keys.{is_related};
@@ -58,8 +58,7 @@ impl<'a> SharedEmails<'a> {
     {
         let mut listed = Vec::new(alloc);
         push_shared(alloc, &histories.ours, contacts, &mut listed)?;
-        let without_names = without_old_names(alloc, &histories.ours)?;
-        push_shared(alloc, &without_names, contacts, &mut listed)?;
+        push_without_names(alloc, &histories.ours, contacts, &mut listed)?;
         let index = index_of(alloc, &listed)?;
         Ok(SharedEmails { listed, index })
     }
@@ -87,6 +86,33 @@ fn index_of<'a>(alloc: Global, emails: &[Folded<'a>]) -> Result<BTreeSet<Folded<
         index.insert(*email)?;
     }
     Ok(index)
+}
+
+// Appends those by the entries without an old name. They are the same again if no entry has one.
+fn push_without_names<'a>(
+    alloc: Global,
+    history: &History<'a>,
+    contacts: &[Tally<'a>],
+    shared: &mut Vec<Folded<'a>>,
+) -> Result<(), AllocError>
+    requires { folded_texts shared.old.items
+        ≡ emails_of_several (spec.answers_with_email history.now (map tally_of contacts.now)) }
+    ensures { OnOk result (folded_texts shared.new.items ≡ folded_texts shared.old.items
+        ++ emails_of_several (spec.answers_with_email (spec.without_old_names history.now) (map tally_of contacts.now))) }
+{
+    if have_no_old_names(&history.entries) {
+        let again = Vec::from_slice(alloc, shared)?;
+        shared.extend_from_slice(&again)?;
+        return Ok(());
+    }
+    let without_names = without_old_names(alloc, history)?;
+    push_shared(alloc, &without_names, contacts, shared)
+}
+
+fn have_no_old_names(entries: &[LocatedEntry<'_>]) -> bool
+    ensures { result ≡ list_all (λ found. is_none (mapping_of found.entry).old_name) entries.now }
+{
+    entries.iter().all(|found| has_no_old_name(found))
 }
 
 fn without_old_names<'a>(alloc: Global, history: &History<'a>) -> Result<History<'a>, AllocError>

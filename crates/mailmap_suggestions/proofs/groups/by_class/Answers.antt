@@ -22,7 +22,7 @@ loop-index-preserved c = λ text are.
           class_more classes contacts k v t.0 before (map keyed_of c.if-has_text.keyed.items) true below within c.index-classes-index.is t.1
           (w.if-has_text.ensures ∙ ap has_text c.as_slice-text.ensures.value)
           (ap (λ v. map keyed_of v.items) w.keyed-is ∙ keyed_push contacts k _ t.0 _ c.loop-index.keyed.items w.push.new.self.items w.in_ok-push.ensures.items within t.1
-          ∙ ap (λ s. before ++ keyed_if true (folded s, tally_of t.0)) c.as_slice-text.ensures.value) text are (c.loop-index.invariant text are)
+          ∙ ap (λ s. before ++ keyed_if true (s, tally_of t.0)) (w.new.ensures ∙ ap folded c.as_slice-text.ensures.value)) text are (c.loop-index.invariant text are)
       | else-has_text w ↦
           class_more classes contacts k v t.0 before (map keyed_of c.if-has_text.keyed.items) false below within c.index-classes-index.is t.1
           (w.if-has_text.ensures ∙ ap has_text c.as_slice-text.ensures.value)
