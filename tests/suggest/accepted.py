@@ -25,9 +25,12 @@ from mailmap import answer, contact_of, entries_of, folded, lines
 from people import PeopleWriter, long_name
 from repository import QUIET, has_git
 from runs import run, wants
-from suggest import is_remembered, line_text, lines_to_print, suggest, suggested_blocks, tallies_of
+from suggest import (
+    BY_EMAIL, BY_LOGIN, BY_NAME, is_remembered, line_text, lines_to_print, suggest, suggested_blocks, tallies_of,
+)
 
 SELECTIONS = 4
+STAGES = [BY_EMAIL, BY_NAME, BY_LOGIN]
 
 
 class Asked:
@@ -197,6 +200,15 @@ def remembered(block, mailmap):
     return {contact for contact in block.group if key(*contact) in keys} if block.needs_review else set()
 
 
+def left_out(blocks, accepted):
+    """The contacts of blocks that are too long for git and have one in an accepted block of a later stage, whose lines
+    may be for all of them.
+    """
+    return {contact for block in blocks if block.is_too_long for other in accepted
+            if STAGES.index(other.stage) > STAGES.index(block.stage) and set(other.group) & set(block.group)
+            for contact in block.group}
+
+
 def text_of(output, blocks, accepted):
     """The output without the `#?` of the accepted blocks. A block ends with an empty line."""
     first = b"\n" if output.startswith(b"\n") else b""
@@ -236,13 +248,13 @@ def selections(choices, review):
 def in_history(asked, what, choices, mailmap, text):
     tallies = tallies_of(text)
     blocks = [one for one in suggested_blocks([mailmap], tallies) if not is_remembered([mailmap], one)]
-    # nothing is promised of those that need a line too long for git
-    left_out = {contact for block in blocks if block.is_too_long for contact in block.group}
-    contacts = [one.contact for one in tallies if one.contact not in left_out]
+    contacts = [one.contact for one in tallies]
     output = asked.suggested(mailmap, text)
     wants(f"{what}, suggested", (0, output, b""), 0, suggest([mailmap], text))
     for how, accepted in selections(choices, [block for block in blocks if block.needs_review]):
-        wants_answers(asked, f"{what}, {how}", mailmap, contacts, output, blocks, accepted)
+        others = left_out(blocks, accepted)
+        asked_about = [contact for contact in contacts if contact not in others]
+        wants_answers(asked, f"{what}, {how}", mailmap, asked_about, output, blocks, accepted)
     again = asked.suggested(mailmap + output, text).split(b"\n")
     wants(f"{what}, again", (0, [line for line in again if line and not line.startswith(b"# ")], b""), 0, [])
 

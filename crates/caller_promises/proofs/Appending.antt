@@ -15,11 +15,12 @@ use Rattle.gix_mailmap.specs.Lines.{mappings_of}
 use Rattle.mailmap_suggestions.specs.Forms.{alike}
 use Rattle.mailmap_suggestions.specs.GroupEntries.{email_entries, with_emails}
 use Rattle.mailmap_suggestions.specs.Histories.{histories_of}
+use Rattle.mailmap_suggestions.specs.Selections.{after_logins, by_login, by_name, stage_entries}
 use Rattle.mailmap_suggestions.specs.Shared.{shared_emails}
 use Rattle.mailmap_suggestions.specs.SuggestedText.{feed_after, feed_unless, printed, suggested_text, suggestions_text}
 use Rattle.mailmap_suggestions.specs.Suggestions.{GroupClasses, Suggestion, is_remembered, lines_in, new_entries, suggestions}
 use Rattle.mailmap_suggestions.specs.Written.{selected_text}
-use Rattle.caller_promises.specs.Suggested.{AreAllNew, AreSelected, AreSelectedNew, AreUnited, git_mappings_in, login_entries, mappings_in, name_entries, with_last}
+use Rattle.caller_promises.specs.Suggested.{AreUnited, git_mappings_in, mappings_in, selection_of, with_last}
 
 -- ---- contacts that were counted
 
@@ -130,29 +131,26 @@ module _ (others : List Text) (l text : Text) (ts : List Tally) where
       → text ≡ feed_after before ++ selected_text (shared_emails (histories_of before) ts) c passes next_passes (lines_in before) (histories_of before) ts
       → ((s t : Text) → mappings_of (s ++ feed_unless (last s) ++ t) ≡ mappings_of s ++ mappings_of t)
       → ((s t : Text) → git_mappings (s ++ feed_unless (last s) ++ t) ≡ git_mappings s ++ git_mappings t)
-      → let seen = lines_in before in let names = name_entries h ts c passes in let logins = login_entries h ts c next_passes in
-      mappings_of (chosen c passes next_passes) ≡ es ++ new_entries seen (names ++ logins) → git_mappings (chosen c passes next_passes) ≡ es ++ new_entries seen (names ++ logins)
-      → AreSelected h (with_emails shared h ts ++ (names ++ logins)) ts c passes next_passes
-      → AreSelectedNew seen h ((with_emails shared h ts ++ new_entries seen names) ++ new_entries seen logins) ts c passes next_passes
-      → (git_mappings_in after ≡ mappings_in after) × (AreAllNew before ts c passes next_passes → AreSelected h (mappings_in after) ts c passes next_passes) × AreSelectedNew seen h (mappings_in after) ts c passes next_passes
-  selected same c passes next_passes is fed git_fed ours gits right new =
+      → let s = selection_of before ts c passes next_passes in let added = new_entries s.seen (stage_entries (by_name s) ++ stage_entries (by_login s)) in
+      mappings_of (chosen c passes next_passes) ≡ es ++ added → git_mappings (chosen c passes next_passes) ≡ es ++ added
+      → (git_mappings_in after ≡ mappings_in after) × (mappings_in after ≡ after_logins s)
+  selected same c passes next_passes is fed git_fed ours gits =
       let text_is : text ≡ feed_after before ++ chosen c passes next_passes =
       subst (λ g. text ≡ feed_after before ++ selected_text (shared_emails (record { ours = h; gits = g }) ts) c passes next_passes (lines_in before) (record { ours = h; gits = g }) ts) same is in
       let read = chosen_read mappings_of fed text_is refl ours in (
         chosen_read git_mappings git_fed text_is same gits ∙ sym read,
-        (λ all_new. subst (λ g. AreSelected h g ts c passes next_passes) (sym (read ∙ ap (λ es. with_emails shared h ts ++ es) all_new)) right),
-        subst (λ g. AreSelectedNew seen h g ts c passes next_passes) (sym (read ∙ ap (λ fs. with_emails shared h ts ++ fs) (filter-append (λ e. not (is_remembered seen e)) names logins)
-            ∙ sym (append_assoc (with_emails shared h ts) (new_entries seen names) (new_entries seen logins)))) new,
+        read ∙ ap (λ fs. with_emails shared h ts ++ fs) (filter-append (λ e. not (is_remembered seen e)) names logins)
+            ∙ sym (append_assoc (with_emails shared h ts) (new_entries seen names) (new_entries seen logins)),
       )
     where
       seen : List Text
       seen = lines_in before
 
       names : List Mapping
-      names = name_entries h ts c passes
+      names = stage_entries (by_name (selection_of before ts c passes next_passes))
 
       logins : List Mapping
-      logins = login_entries h ts c next_passes
+      logins = stage_entries (by_login (selection_of before ts c passes next_passes))
 
       chosen_read : (read : Text → List Mapping) → ((s t : Text) → read (s ++ feed_unless (last s) ++ t) ≡ read s ++ read t) → text ≡ feed_after before ++ chosen c passes next_passes
           → flat_map read before ≡ h → read (chosen c passes next_passes) ≡ es ++ new_entries seen (names ++ logins) → flat_map read after ≡ (h ++ es) ++ new_entries seen (names ++ logins)

@@ -1,5 +1,5 @@
 -- Mailmaps with suggested lines appended, and what is promised of their answers.
-use Rattle.std.specs.Prelude.{◌≡◌, ◌≢◌, Bool, List, [], ◌∷◌, ◌++◌, true}
+use Rattle.std.specs.Prelude.{◌≡◌, Bool, List, [], ◌∷◌, ◌++◌, true}
 use Rattle.std.specs.List.{AllByRecursion, flat_map}
 use Rattle.bstr.specs.Text.{lines_of}
 use Rattle.gix_mailmap.specs.Entries.{Mapping}
@@ -9,14 +9,14 @@ use Rattle.gix_mailmap.specs.Lines.{mappings_of}
 use Rattle.mailmap_contacts.specs.Contacts.{Contact, Tally, answer_to, contacts_from, tallied}
 use Rattle.mailmap_snapshot.specs.declared.actor.Signature.{Signature}
 use Rattle.mailmap_suggestions.specs.Forms.{alike, git_answer_to, is_shared}
-use Rattle.mailmap_suggestions.specs.GroupEntries.{AllAgree, NoneCut, NoneCutIf, Unites, UnitesAlone}
-use Rattle.mailmap_suggestions.specs.GroupEntries.{all_entries, contacts, email_class, only, uncut, uncut_email_class}
-use Rattle.mailmap_suggestions.specs.GroupEntries.{with_classes, with_emails}
+use Rattle.mailmap_suggestions.specs.GroupEntries.{Unites, contacts, uncut_email_class}
 use Rattle.mailmap_suggestions.specs.Histories.{histories_of}
-use Rattle.mailmap_suggestions.specs.NewLines.{UnitesNew}
+use Rattle.mailmap_suggestions.specs.Selections.{AllAgreeBut, Selection, Selects, after_emails, after_names}
+use Rattle.mailmap_suggestions.specs.Selections.{by_email, by_login, by_name, has_cut_email, is_left_out}
+use Rattle.mailmap_suggestions.specs.Selections.{is_left_out_later, uncut_class}
 use Rattle.mailmap_suggestions.specs.Shared.{shared_emails}
 use Rattle.mailmap_suggestions.specs.SuggestedText.{feed_after}
-use Rattle.mailmap_suggestions.specs.Suggestions.{AreGroupClasses, GroupClasses, lines_in, new_entries}
+use Rattle.mailmap_suggestions.specs.Suggestions.{AreGroupClasses, GroupClasses, lines_in}
 use Rattle.mailmap_suggestions.specs.Written.{ContactHoldsNoZero, selected_text}
 
 -- ---- mailmaps and contacts
@@ -80,77 +80,32 @@ pub record IsEdited (mailmaps : List Text) (contacts : Text) (c : GroupClasses) 
       let ts = contacts_in contacts in
       text ≡ feed_after mailmaps ++ selected_text (shared_emails h ts) c passes next_passes (lines_in mailmaps) h ts
 
--- the mappings with the entries for emails
-abbrev pub after_emails : List Mapping → List Tally → List Mapping
-after_emails h ts = with_emails (shared_emails (alike h) ts) h ts
+-- what is selected then
+abbrev pub selection_of : List Text → List Tally → GroupClasses → (Text → Bool) → (Text → Bool) → Selection
+selection_of mailmaps ts c passes next_passes = let h = mappings_in mailmaps in record {
+  shared = shared_emails (alike h) ts;
+  mappings = h;
+  tallies = ts;
+  classes = c;
+  names_pass = passes;
+  logins_pass = next_passes;
+  seen = lines_in mailmaps;
+}
 
--- and with those for the groups by name, or some of them
-abbrev pub after_names : List Mapping → List Tally → (Contact → Text) → List Mapping
-after_names h ts class = with_classes (shared_emails (alike h) ts) class (after_emails h ts) ts
+-- no two answers by the mappings g have one email that one person has, and differ
+abbrev pub EmailsAgree : Selection → List Mapping → Type 0
+EmailsAgree s g = AllAgreeBut (has_cut_email s) (uncut_class (by_email s)) g (contacts s.tallies)
 
--- the entries for the groups by name that pass, and for those by login
-abbrev pub name_entries : List Mapping → List Tally → GroupClasses → (Text → Bool) → List Mapping
-name_entries h ts c passes = let g = alike (after_emails h ts) in
-    all_entries (shared_emails (alike h) ts) (only passes c.by_name) g g ts
-
-abbrev pub login_entries : List Mapping → List Tally → GroupClasses → (Text → Bool) → List Mapping
-login_entries h ts c next_passes = all_entries (shared_emails (alike h) ts) (only next_passes c.by_login)
-    (alike (after_emails h ts)) (alike (after_names h ts c.by_name)) ts
-
--- The mappings g answer the contacts of a selected group by login by its proper answer, and others as with the selected
--- groups by name alone. With these, contacts of such a group are answered by its proper answer, and others as with the
--- entries for emails. All this is so here and in git; and all of one email are still one.
-pub record AreSelected (h g : List Mapping) (ts : List Tally) (c : GroupClasses) (passes next_passes : Text → Bool)
-    : Type 0 where
-  pub by_name : let shared = shared_emails (alike h) ts in
-      let before = after_emails h ts in
-      Unites shared (uncut shared (only passes c.by_name) (alike before) (alike before) ts) before ts
-      (after_names h ts (only passes c.by_name))
-  pub by_login : let shared = shared_emails (alike h) ts in
-      let all = after_names h ts c.by_name in
-      UnitesAlone shared (uncut shared (only next_passes c.by_login) (alike (after_emails h ts)) (alike all) ts)
-      (after_names h ts (only passes c.by_name)) all ts g
-  pub emails : AllAgree (uncut_email_class (shared_emails (alike h) ts) h ts) g (contacts ts)
-
--- The same for the entries that no line remembers: a contact whose line is remembered is answered as without its group.
-pub record AreSelectedNew (seen : List Text) (h g : List Mapping) (ts : List Tally) (c : GroupClasses)
-    (passes next_passes : Text → Bool) : Type 0 where
-  pub by_name : let shared = shared_emails (alike h) ts in
-      let before = after_emails h ts in
-      UnitesNew seen shared (uncut shared (only passes c.by_name) (alike before) (alike before) ts) before before before ts
-      (before ++ new_entries seen (name_entries h ts c passes))
-  pub by_login : let shared = shared_emails (alike h) ts in
-      let before = after_emails h ts in
-      let all = after_names h ts c.by_name in
-      UnitesNew seen shared (uncut shared (only next_passes c.by_login) (alike before) (alike all) ts) before
-      (before ++ new_entries seen (name_entries h ts c passes)) all ts g
-  pub emails : AllAgree (uncut_email_class (shared_emails (alike h) ts) h ts) g (contacts ts)
-
--- git would cut no line for the email of an answer in a selected group by name; and if there is one by login, none for
--- any email or for alike names
-pub record CanSelect (mailmaps : List Text) (ts : List Tally) (c : GroupClasses) (passes next_passes : Text → Bool)
-    : Type 0 where
-  pub none_cut : let h = mappings_in mailmaps in
-      let shared = shared_emails (alike h) ts in
-      NoneCutIf (λ d. only passes c.by_name (answer_to (after_emails h ts) d) ≢ []) shared (email_class shared) h ts
-  pub for_logins : let h = mappings_in mailmaps in
-      let shared = shared_emails (alike h) ts in
-      (k : Text) → next_passes k ≡ true
-      → NoneCut shared (email_class shared) h ts × NoneCut shared c.by_name (after_emails h ts) ts
-
--- no line of the selected groups is remembered
-abbrev pub AreAllNew : List Text → List Tally → GroupClasses → (Text → Bool) → (Text → Bool) → Type 0
-AreAllNew mailmaps ts c passes next_passes = let h = mappings_in mailmaps in
-    let es = name_entries h ts c passes ++ login_entries h ts c next_passes in
-    new_entries (lines_in mailmaps) es ≡ es
-
--- With an edited text appended to the last mailmap, git reads all as this library does, and both answer the contacts so:
--- as with the entries of the selected groups if no line of theirs is remembered, and else as with the others of them.
+-- With an edited text appended to the last mailmap, git reads all as this library does. Contacts of a selected group by
+-- login get its proper answer, here and in git, and others are answered as with the selected groups by name alone. With
+-- these, contacts of such a group get its proper answer, and others are answered as with the entries for emails. All of
+-- one email are still one.
 pub record SelectsAppended (others : List Text) (last text contacts : Text) (c : GroupClasses)
     (passes next_passes : Text → Bool) : Type 0 where
   pub read : git_mappings_in (with_last others (last ++ text)) ≡ mappings_in (with_last others (last ++ text))
-  pub selected : AreAllNew (with_last others last) (contacts_in contacts) c passes next_passes
-      → AreSelected (mappings_in (with_last others last)) (mappings_in (with_last others (last ++ text)))
-      (contacts_in contacts) c passes next_passes
-  pub selected_new : AreSelectedNew (lines_in (with_last others last)) (mappings_in (with_last others last))
-      (mappings_in (with_last others (last ++ text))) (contacts_in contacts) c passes next_passes
+  pub by_name : let s = selection_of (with_last others last) (contacts_in contacts) c passes next_passes in
+      Selects s.seen (is_left_out s) (by_name s) (after_emails s) (after_names s)
+  pub by_login : let s = selection_of (with_last others last) (contacts_in contacts) c passes next_passes in
+      Selects s.seen (is_left_out_later s) (by_login s) (after_names s) (mappings_in (with_last others (last ++ text)))
+  pub emails : let s = selection_of (with_last others last) (contacts_in contacts) c passes next_passes in
+      EmailsAgree s (mappings_in (with_last others (last ++ text)))

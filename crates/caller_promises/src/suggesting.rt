@@ -13,7 +13,7 @@ ghost use Rattle.mailmap_contacts.specs.Contacts.{answer_to, contacts_from, tall
 ghost use Rattle.mailmap_contacts.specs.Counts.{AreContactsOf};
 ghost use Rattle.mailmap_suggestions.specs.Printed.{IsSuggested};
 ghost use Rattle.mailmap_suggestions.specs.Suggestions.{GroupClasses};
-ghost use Rattle.caller_promises.specs.Suggested.{CanSelect, HoldNoZero, IsEdited, SelectsAppended, UnitesAppended};
+ghost use Rattle.caller_promises.specs.Suggested.{HoldNoZero, IsEdited, SelectsAppended, UnitesAppended};
 ghost use Rattle.caller_promises.specs.Suggested.{contact_in, contacts_in, mappings_in, with_last};
 
 use gix_mailmap::Snapshot;
@@ -21,9 +21,8 @@ use gix_mailmap::actor::{Signature, SignatureRef};
 use gix_mailmap::answers::Tally;
 use gix_mailmap::counter::{ContactCounter, Contacts};
 use gix_mailmap::laws::{
-    law_headline, law_line_feeds, law_no_zero, law_pieces, law_read_alike, law_remembered,
-    law_selected, law_selected_together, law_suggested_text, law_suggestions, law_tallied,
-    law_text_after, law_whole_lines,
+    law_headline, law_line_feeds, law_no_zero, law_pieces, law_read_alike, law_selected,
+    law_suggested_text, law_suggestions, law_tallied, law_text_after, law_whole_lines,
 };
 use gix_mailmap::snapshot::Source;
 use gix_mailmap::suggestions::suggest;
@@ -102,7 +101,8 @@ pub fn answer_suggested(
 ///
 /// If the text is what was suggested, without the `#?` before the lines of some whole blocks, each contact of such a
 /// block gets the proper answer of the last one that has it, here and in git, and the others are answered as without
-/// them. So is a contact in a block whose line some mailmap had before with a `#?`: that block doesn't change it.
+/// them. So is a contact in a block whose line some mailmap had before with a `#?`: that block doesn't change it. Left
+/// out are contacts of a block that is too long for git, if one of them is in one of these blocks.
 pub fn answer_selected(
     alloc: Global,
     others: &[&[u8]],
@@ -117,16 +117,13 @@ pub fn answer_selected(
         → let mailmaps = with_last (map (λ b. b.now) others.now) last.now in
         IsEdited mailmaps contacts.now c passes next_passes text.now
         → first_read_otherwise mailmaps ≡ None → HoldNoZero contacts.now
-        → CanSelect mailmaps (contacts_in contacts.now) c passes next_passes
         → OnOk result (SelectsAppended (map (λ b. b.now) others.now) last.now text.now contacts.now c passes next_passes) }
 {
     law_line_feeds();
     law_no_zero();
     law_pieces();
     law_read_alike();
-    law_remembered();
     law_selected();
-    law_selected_together();
     law_suggested_text();
     law_tallied();
     law_text_after();

@@ -24,7 +24,7 @@ pub use mailmap_snapshot::laws::{
     law_lines, law_parts, law_stream, law_strict, law_text, law_time,
 };
 pub use mailmap_suggestions::laws::{
-    law_each_needed, law_exact, law_linked, law_no_zero, law_others_stay, law_proper_answer,
-    law_read_alike, law_remembered, law_selected, law_selected_alone, law_selected_together,
-    law_suggested_lines, law_suggested_text, law_suggestions, law_text_after,
+    law_each_needed, law_exact, law_linked, law_no_zero, law_none_remembered, law_others_stay,
+    law_proper_answer, law_read_alike, law_selected, law_suggested_lines, law_suggested_text,
+    law_suggestions, law_text_after,
 };

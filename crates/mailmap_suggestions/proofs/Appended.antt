@@ -77,7 +77,7 @@ module _ (N E : Text → Type 0) where
   abbrev pub Gives : Mapping → Type 0
   Gives x = IfSome x.new_name N × IfSome x.new_email E × E x.old_email
 
-  given_all : (Q : Text → Type 0) (f : Mapping → Option Text) (l : List Mapping) → AllByRecursion (λ x. IfSome (f x) Q) l → IfSome (last_given f l) Q
+  pub given_all : (Q : Text → Type 0) (f : Mapping → Option Text) (l : List Mapping) → AllByRecursion (λ x. IfSome (f x) Q) l → IfSome (last_given f l) Q
   given_all Q f [] all = tt
   given_all Q f (x ∷ xs) all = grind (arith, all.0, given_all Q f xs all.1)
 
@@ -170,7 +170,7 @@ first_so : (s : Text) (l : List Mapping) → AllByRecursion (λ x. x.old_email �
 first_so s [] all = refl
 first_so s (x ∷ xs) all = all.0
 
-spelling_so : (c : Contact) (xs : List Mapping) → AllByRecursion (λ x. folded x.old_email ≡ folded c.email → x.old_email ≡ c.email) xs → spelling_of xs c ≡ c.email
+pub spelling_so : (c : Contact) (xs : List Mapping) → AllByRecursion (λ x. folded x.old_email ≡ folded c.email → x.old_email ≡ c.email) xs → spelling_of xs c ≡ c.email
 spelling_so c xs all = first_so c.email (of_email xs (folded c.email))
     (all_filtered (λ x. eq_by_cmp text_cmp (folded c.email) (folded x.old_email)) (λ x. folded x.old_email ≡ folded c.email → x.old_email ≡ c.email) (λ x. x.old_email ≡ c.email)
     (λ x spells is. spells (sym ((same_text (folded c.email) (folded x.old_email)).0 is))) (accepted xs) (accepted_all (λ x. folded x.old_email ≡ folded c.email → x.old_email ≡ c.email) xs all))
@@ -409,11 +409,11 @@ abbrev pub SpellAlike : List Text → List Mapping → Contact → Contact → T
 SpellAlike shared h b c = spelled h c ≡ None → is_shared shared c.email ≡ true → folded b.email ≡ folded c.email → b.email ≡ c.email
 
 -- Classes of answers with which an entry for an email that several people share changes only answers that it is for.
-pub record IsCareful (shared : List Text) (class : Contact → Text) (h : List Mapping) (ts : List Tally) : Type 0 where
+pub record IsCareful (shared : List Text) (class : Contact → Text) (out : Contact → Bool) (h : List Mapping) (ts : List Tally) : Type 0 where
   -- answers without an email have none
   pub emails : AllByRecursion (λ c. (answer_to h c).email ≡ [] → class (answer_to h c) ≡ []) (contacts ts)
-  -- contacts that one entry with an old name is for have one class
-  pub keys : AllByRecursion (λ b. AllByRecursion (λ c. is_shared shared (answer_to h b).email ≡ true
+  -- contacts that one entry with an old name is for have one class, unless they are left out
+  pub keys : AllByRecursion (λ b. AllByRecursion (λ c. out c ≡ false → is_shared shared (answer_to h b).email ≡ true
       → own_key b ≡ own_key c → class (answer_to h b) ≡ class (answer_to h c)) (contacts ts)) (contacts ts)
   -- all answers with such an email spell it in one way, if one of them has a class
   pub spelled : AllByRecursion (λ b. AllByRecursion (λ c. is_shared shared (answer_to h b).email ≡ true

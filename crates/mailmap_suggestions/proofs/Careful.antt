@@ -10,35 +10,17 @@ use Rattle.mailmap_contacts.proofs.Steps.{all_filtered, all_unfiltered}
 use Rattle.mailmap_contacts.proofs.Tallied.{each_tallied, each_untallied}
 use Rattle.mailmap_names.specs.Keys.{has_common, is_among, marks}
 use Rattle.mailmap_suggestions.specs.Forms.{alike, is_shared, own_key}
-use Rattle.mailmap_suggestions.specs.GroupEntries.{HasNoEmptyName, NoneCut, contacts, email_class, with_classes, with_emails}
-use Rattle.mailmap_suggestions.specs.LinkedClasses.{AreNameClasses, AreNextClasses}
+use Rattle.mailmap_suggestions.specs.GroupEntries.{HasNoEmptyName, are_cut, contacts, with_classes, with_emails}
 use Rattle.mailmap_suggestions.specs.Links.{AreClassesBy, another_has, answered_by, answers, are_like, has_email, is_spelled_once, login_marks, mail_keys, name_keys, name_marks, names_of, participants, takes_part}
-use Rattle.mailmap_suggestions.proofs.Appended.{IsCareful, linked_name}
-use Rattle.mailmap_suggestions.proofs.Distinct.{◌∈◌, at, each, each_pair, equal_bytes, in_filter, same_bytes}
-use Rattle.mailmap_suggestions.proofs.United.{active_some, changed, is_active, one_class, touched_answers, unblocked, unchanged, wanted}
+use Rattle.mailmap_suggestions.proofs.Appended.{IsCareful, linked_name, unnamed_contact}
+use Rattle.mailmap_suggestions.proofs.Distinct.{◌∈◌, any_at, at, each, each_pair, equal_bytes, in_filter, in_joined, same_bytes}
+use Rattle.mailmap_suggestions.proofs.United.{active_some, changed, cut_before, cut_class, cut_email, cut_same, either_same, is_active, lines, neither, never, one_class, right_false, shared_uncut, touched_answers, unblocked, unchanged, wanted}
 
 -- ---- lists
 
 all_true : {X : Type 0} (p : X → Bool) (xs : List X) → list_all p xs ≡ true → AllByRecursion (λ x. p x ≡ true) xs
 all_true p [] is = tt
 all_true p (x ∷ xs) is = let parts = and_parts (p x) (list_all p xs) is in (parts.0, all_true p xs parts.1)
-
-any_at : {X : Type 0} (p : X → Bool) (xs : List X) (x : X) → x ∈ xs → p x ≡ true → list_any p xs ≡ true
-any_at p [] x i is = absurd i
-any_at p (y ∷ ys) x i is = ⊎_elim (λ same. ap (λ b. b || list_any p ys) (ap p same ∙ is)) (λ later. or_right (p y) (list_any p ys) (any_at p ys x later is)) i
-
-in_left : {X : Type 0} (xs ys : List X) (x : X) → x ∈ xs → x ∈ (xs ++ ys)
-in_left [] ys x i = absurd i
-in_left (z ∷ xs) ys x i = ⊎_elim (λ same. inl same) (λ later. inr (in_left xs ys x later)) i
-
-in_right : {X : Type 0} (xs ys : List X) (x : X) → x ∈ ys → x ∈ (xs ++ ys)
-in_right [] ys x i = i
-in_right (z ∷ xs) ys x i = inr (in_right xs ys x i)
-
-in_joined : {X Y : Type 0} (part : X → List Y) (xs : List X) (x : X) (y : Y) → x ∈ xs → y ∈ part x → y ∈ flat_map part xs
-in_joined part [] x y i j = absurd i
-in_joined part (z ∷ xs) x y i j = ⊎_elim (λ same. in_left (part z) (flat_map part xs) y (subst (λ w. y ∈ part w) (sym same) j))
-    (λ later. in_right (part z) (flat_map part xs) y (in_joined part xs x y later j)) i
 
 in_mapped : {X Y : Type 0} (f : X → Y) (xs : List X) (x : X) → x ∈ xs → f x ∈ map f xs
 in_mapped f [] x i = absurd i
@@ -57,6 +39,12 @@ unfolding marks
 in_marks [] some = absurd (some refl)
 in_marks (b ∷ rest) some = inl refl
 
+-- empty names have none
+no_marks : (ns : List Text) → AllByRecursion (λ n. n ≡ []) ns → flat_map marks ns ≡ []
+unfolding marks
+no_marks [] none = refl
+no_marks (n ∷ ns) none = ap (λ m. marks m ++ flat_map marks ns) none.0 ∙ no_marks ns none.1
+
 some_text : (t : Text) → has_text t ≡ true → t ≢ []
 some_text t is none = true≢false (sym is ∙ ap has_text none)
 
@@ -74,7 +62,7 @@ true_all : {X : Type 0} (p : X → Bool) (xs : List X) → AllByRecursion (λ x.
 true_all p [] all = refl
 true_all p (x ∷ xs) all = λ i. all.0 i && true_all p xs all.1 i
 
-text_some : (t : Text) → t ≢ [] → has_text t ≡ true
+pub text_some : (t : Text) → t ≢ [] → has_text t ≡ true
 text_some [] some = absurd (some refl)
 text_some (b ∷ t) some = refl
 
@@ -131,8 +119,9 @@ module _ (shared : List Text) (h : List Mapping) (ts : List Tally) where
     some_class : (c : Contact) → c ∈ contacts ts → class (answer c) ≢ [] → takes (answer c) ≡ true
     some_class c i some = true_from_ne_false (takes (answer c)) (λ out. some (no_part c i out))
 
-    pub careful_if : ((b c : Contact) → b ∈ contacts ts → c ∈ contacts ts → is_shared shared (answer b).email ≡ true → own_key b ≡ own_key c → class (answer b) ≡ class (answer c)) → IsCareful shared class h ts
-    careful_if one_key = record {
+    pub careful_if : (out : Contact → Bool) → ((b c : Contact) → b ∈ contacts ts → c ∈ contacts ts → out c ≡ false → is_shared shared (answer b).email ≡ true → own_key b ≡ own_key c → class (answer b) ≡ class (answer c))
+        → IsCareful shared class out h ts
+    careful_if out one_key = record {
       emails = each _ (contacts ts) (λ c i none. no_part c i (ap (λ e. has_text e && (not (is_shared shared e) || (list_all (λ d. has_text d.name) (alike_answers (answer c)) && is_spelled_once (alike h) ts e))) none));
       keys = each_pair _ (contacts ts) one_key;
       spelled = each_pair _ (contacts ts) (λ b c i j many some same. one_spelling (answer b) c many (some_class b i some) j same);
@@ -191,14 +180,34 @@ module _ (shared : List Text) (h : List Mapping) (ts : List Tally) (class : Cont
       shared_too : is_shared shared (by c).email ≡ true
       shared_too = ap (λ e. list_any (bytes_eq e) shared) (sym emails) ∙ many
 
-  pub careful : IsCareful shared class h ts
-  careful = careful_if shared h ts class no_part one_key
+  own_marked : (c : Contact) → (by c).name ≢ [] → part (by c) ≡ true → name_mark (by c).name ∈ marks_of (by c)
+  own_marked c some is = subst (λ b. name_mark (by c).name ∈ (if b then flat_map marks (names_of (alike h) ts (by c)) else [])) (sym is)
+      (in_joined marks (names_of (alike h) ts (by c)) (by c).name (name_mark (by c).name) (inl refl) (in_marks (by c).name some))
+
+  -- answers with one name that have a class have one
+  pub named_alike : (b c : Contact) → b ∈ contacts ts → c ∈ contacts ts → (by b).name ≡ (by c).name → (by b).name ≢ [] → class (by b) ≢ [] → class (by c) ≢ [] → class (by b) ≡ class (by c)
+  named_alike b c i j same some first second = joined b c i j (in_common (marks_of (by b)) (marks_of (by c)) (name_mark (by b).name)
+      (own_marked b some (some_class shared h ts class no_part b i first))
+      (subst (λ n. name_mark n ∈ marks_of (by c)) (sym same) (own_marked c (λ none. some (same ∙ none)) (some_class shared h ts class no_part c j second))))
+
+  pub careful : IsCareful shared class never h ts
+  careful = careful_if shared h ts class no_part never (λ b c i j o. one_key b c i j)
+
+  -- an answer without a name has no class
+  pub unnamed : AllByRecursion HasNoEmptyName h → (c : Contact) → c ∈ contacts ts → (by c).name ≡ [] → class (by c) ≡ []
+  unnamed all c i empty = unmarked c i (ap (λ l. if part (by c) then l else []) (no_marks (names_of (alike h) ts (by c)) (empty, names)) ∙ either_same (part (by c)) [])
+    where
+      same_name : (d : Contact) → d ∈ contacts ts → same_contact (by d) (by c) ≡ true → d.name ≡ []
+      same_name d j same = unnamed_contact h d all (same_bytes (by d).name (by c).name (and_parts (bytes_eq (by d).name (by c).name) (bytes_eq (by d).email (by c).email) same).0 ∙ empty)
+
+      names : AllByRecursion (λ n. n ≡ []) (map (λ (d : Contact). d.name) (answered_by (alike h) ts (by c)))
+      names = all_mapped (λ (d : Contact). d.name) (λ n. n ≡ []) (answered_by (alike h) ts (by c))
+          (all_filtered (λ d. same_contact (by d) (by c)) (λ d. same_contact (by d) (by c) ≡ true → d.name ≡ []) (λ d. d.name ≡ []) (λ d f same. f same) (contacts ts) (each _ (contacts ts) same_name))
 
 -- ==== then classes of answers that logins link
 
-module _ (shared : List Text) (h : List Mapping) (ts : List Tally) (all_named_h : AllByRecursion HasNoEmptyName h) (none_cut : NoneCut shared (email_class shared) h ts) (class next : Contact → Text)
+module _ (shared : List Text) (h : List Mapping) (ts : List Tally) (all_named_h : AllByRecursion HasNoEmptyName h) (class next : Contact → Text)
     (by_names : AreClassesBy (name_marks shared (alike (with_emails shared h ts)) ts) (answers (alike (with_emails shared h ts)) ts) class)
-    (class_cut : NoneCut shared class (with_emails shared h ts) ts)
     (by_logins : AreClassesBy (login_marks shared (alike (with_classes shared class (with_emails shared h ts) ts)) ts) (answers (alike (with_classes shared class (with_emails shared h ts) ts)) ts) next) where
   abbrev g : List Mapping
   g = with_emails shared h ts
@@ -206,7 +215,7 @@ module _ (shared : List Text) (h : List Mapping) (ts : List Tally) (all_named_h 
   abbrev f : List Mapping
   f = with_classes shared class g ts
 
-  careful_g : IsCareful shared class g ts
+  abbrev careful_g : IsCareful shared class never g ts
   careful_g = careful shared g ts class by_names
 
   abbrev now : Contact → Contact
@@ -218,11 +227,20 @@ module _ (shared : List Text) (h : List Mapping) (ts : List Tally) (all_named_h 
   abbrev block : Contact → Bool
   block c = is_active shared g g ts class (class (now c))
 
-  changed_to : (c : Contact) → c ∈ contacts ts → block c ≡ true → later c ≡ wanted shared g g ts class (class (now c))
-  changed_to = changed shared h ts all_named_h none_cut class careful_g
+  abbrev out_email : Contact → Bool
+  out_email = cut_email shared h ts all_named_h
 
-  same_later : (c : Contact) → c ∈ contacts ts → block c ≡ false → later c ≡ now c
-  same_later = unchanged shared h ts all_named_h none_cut class careful_g
+  abbrev out : Contact → Bool
+  out = cut_before shared h ts all_named_h class careful_g
+
+  changed_to : (c : Contact) → c ∈ contacts ts → out_email c ≡ false → block c ≡ true → later c ≡ wanted shared g g ts class (class (now c))
+  changed_to = changed shared h ts all_named_h class careful_g
+
+  same_later : (c : Contact) → c ∈ contacts ts → out_email c ≡ false → block c ≡ false → later c ≡ now c
+  same_later = unchanged shared h ts all_named_h class careful_g
+
+  uncut_shared : (c : Contact) → c ∈ contacts ts → is_shared shared (now c).email ≡ true → out_email c ≡ false
+  uncut_shared = shared_uncut shared h ts all_named_h
 
   in_class : (c : Contact) → block c ≡ true → class (now c) ≢ []
   in_class c on = active_some shared g g ts class (class (now c)) on
@@ -238,7 +256,10 @@ module _ (shared : List Text) (h : List Mapping) (ts : List Tally) (all_named_h 
     names_before d j true on like =
         let emails = same_bytes (folded (now d).email) (folded (now b).email) (and_parts (bytes_eq (folded (now d).name) (folded (now b).name)) (bytes_eq (folded (now d).email) (folded (now b).email)) like).1 in
         text_some d.name (at _ (contacts ts) careful_g.names d j (ap (λ e. list_any (bytes_eq e) shared) emails ∙ many) (in_class d on))
-    names_before d j false off like = text_some d.name (all_named shared f ts (now b) many is d j (ap (λ a. are_like a (now b)) (same_later d j off) ∙ like))
+    names_before d j false off like =
+        let emails = same_bytes (folded (now d).email) (folded (now b).email) (and_parts (bytes_eq (folded (now d).name) (folded (now b).name)) (bytes_eq (folded (now d).email) (folded (now b).email)) like).1 in
+        let d_is = same_later d j (uncut_shared d j (ap (λ e. list_any (bytes_eq e) shared) emails ∙ many)) off in
+        text_some d.name (all_named shared f ts (now b) many is d j (ap (λ a. are_like a (now b)) d_is ∙ like))
 
     spelled_before : (d : Contact) → d ∈ contacts ts → (t : Bool) → block d ≡ t → has_email (now b).email (now d) ≡ true → bytes_eq (now d).email (now b).email ≡ true
     spelled_before d j true on has =
@@ -246,7 +267,7 @@ module _ (shared : List Text) (h : List Mapping) (ts : List Tally) (all_named_h 
         equal_bytes (now d).email (now b).email (at _ (contacts ts) (at _ (contacts ts) careful_g.spelled d j) b i (ap (λ e. list_any (bytes_eq e) shared) emails ∙ many) (in_class d on) emails)
     spelled_before d j false off has =
         let emails = same_bytes (folded (now d).email) (folded (now b).email) has in
-        let d_is = ap (λ (a : Contact). a.email) (same_later d j off) in
+        let d_is = ap (λ (a : Contact). a.email) (same_later d j (uncut_shared d j (ap (λ e. list_any (bytes_eq e) shared) emails ∙ many)) off) in
         equal_bytes (now d).email (now b).email (sym d_is ∙ sym (one_spelling shared f ts (now b) d many is j (sym emails ∙ ap folded (sym d_is))))
 
     takes_before : takes shared g ts (now b) ≡ true
@@ -262,30 +283,38 @@ module _ (shared : List Text) (h : List Mapping) (ts : List Tally) (all_named_h 
   gone : (c : Contact) → c ∈ contacts ts → later c ≡ now c → is_shared shared (now c).email ≡ true → takes shared g ts (now c) ≡ false → next (later c) ≡ []
   gone c i c_is many out = no_login c i (false_from_ne_true (takes shared f ts (later c)) (λ is. true≢false (sym (takes_before c i c_is many (ap (takes shared f ts) (sym c_is) ∙ is)) ∙ out)))
 
-  both_same : (b c : Contact) → b ∈ contacts ts → c ∈ contacts ts → later b ≡ now b → later c ≡ now c → block b ≡ false → is_shared shared (now b).email ≡ true → is_shared shared (now c).email ≡ true → class (now b) ≡ class (now c)
+  both_same : (b c : Contact) → b ∈ contacts ts → c ∈ contacts ts → cut_class shared g g ts class c ≡ false → later b ≡ now b → later c ≡ now c → block b ≡ false → is_shared shared (now b).email ≡ true → is_shared shared (now c).email ≡ true → class (now b) ≡ class (now c)
       → (t : Bool) → takes shared g ts (now b) ≡ t → next (later b) ≡ next (later c)
-  both_same b c i j b_is c_is off many c_many same true is =
-      ap next (b_is ∙ unblocked shared h ts all_named_h none_cut class careful_g b c i j same (taking_class shared g ts class by_names b i many is) (at _ (contacts ts) class_cut b i) off ∙ sym c_is)
-  both_same b c i j b_is c_is off many c_many same false out =
+  both_same b c i j o b_is c_is off many c_many same true is =
+      let some = taking_class shared g ts class by_names b i many is in
+      let k = class (now b) in
+      let whole : are_cut (lines shared g g ts class k) ≡ false = right_false (not (bytes_eq k [])) (are_cut (lines shared g g ts class k)) (ap not (false_from_ne_true (bytes_eq k []) (λ e. some (same_bytes k [] e))))
+      (ap (λ k. not (bytes_eq k []) && are_cut (lines shared g g ts class k)) same ∙ o) in
+      ap next (b_is ∙ unblocked shared h ts all_named_h class careful_g b c i j same some whole off ∙ sym c_is)
+  both_same b c i j o b_is c_is off many c_many same false out =
       let none : class (now c) ≡ [] = sym same ∙ no_part shared g ts class by_names b i out in
       gone b i b_is many out ∙ sym (gone c j c_is c_many (false_from_ne_true (takes shared g ts (now c)) (λ is. taking_class shared g ts class by_names c j c_many is none)))
 
-  login_key : (b c : Contact) → b ∈ contacts ts → c ∈ contacts ts → (t : Bool) → block b ≡ t → is_shared shared (later b).email ≡ true → own_key b ≡ own_key c → next (later b) ≡ next (later c)
-  login_key b c i j true on many keys =
-      let same = one_class shared h ts all_named_h none_cut class careful_g b c i j (inl keys) in
-      ap next (changed_to b i on ∙ ap (wanted shared g g ts class) same ∙ sym (changed_to c j (ap (is_active shared g g ts class) (sym same) ∙ on)))
-  login_key b c i j false off many keys =
-      let same = one_class shared h ts all_named_h none_cut class careful_g b c i j (inl keys) in
-      let b_is = same_later b i off in
-      let c_is = same_later c j (ap (is_active shared g g ts class) (sym same) ∙ off) in
-      let b_many : is_shared shared (now b).email ≡ true = ap (λ (a : Contact). is_shared shared a.email) (sym b_is) ∙ many in
-      let c_many : is_shared shared (now c).email ≡ true = ap (λ e. list_any (bytes_eq e) shared) (sym (touched_answers shared g b c (inl keys))) ∙ b_many in
-      both_same b c i j b_is c_is off b_many c_many same (takes shared g ts (now b)) refl
+  login_key : (b c : Contact) → b ∈ contacts ts → c ∈ contacts ts → out c ≡ false → (t : Bool) → block b ≡ t → is_shared shared (later b).email ≡ true → own_key b ≡ own_key c → next (later b) ≡ next (later c)
+  login_key b c i j o t is many keys = by t is
+    where
+      c_whole : out_email c ≡ false
+      c_whole = (neither (out_email c) (cut_class shared g g ts class c) o).0
 
-  pub careful_logins : IsCareful shared next f ts
-  careful_logins = careful_if shared f ts next no_login (λ b c i j many keys. login_key b c i j (block b) refl many keys)
+      b_whole : out_email b ≡ false
+      b_whole = cut_same shared h ts all_named_h b c i j (touched_answers shared g b c (inl keys)) ∙ c_whole
 
--- with what selected groups by logins need
-pub careful_next : (shared : List Text) (h : List Mapping) (ts : List Tally) → AllByRecursion HasNoEmptyName h → (class next : Contact → Text) → AreNameClasses shared (with_emails shared h ts) ts class → AreNextClasses shared h ts class next
-    → NoneCut shared (email_class shared) h ts × IsCareful shared next (with_classes shared class (with_emails shared h ts) ts) ts
-careful_next shared h ts named class next by_names n = (n.none_cut, careful_logins shared h ts named n.none_cut class next by_names n.no_names_cut n.are_classes)
+      same : class (now b) ≡ class (now c)
+      same = one_class shared h ts all_named_h class careful_g b c i j c_whole (inl keys)
+
+      by : (t : Bool) → block b ≡ t → next (later b) ≡ next (later c)
+      by true on = ap next (changed_to b i b_whole on ∙ ap (wanted shared g g ts class) same ∙ sym (changed_to c j c_whole (ap (is_active shared g g ts class) (sym same) ∙ on)))
+      by false off =
+          let b_is = same_later b i b_whole off in
+          let c_is = same_later c j c_whole (ap (is_active shared g g ts class) (sym same) ∙ off) in
+          let b_many : is_shared shared (now b).email ≡ true = ap (λ (a : Contact). is_shared shared a.email) (sym b_is) ∙ many in
+          let c_many : is_shared shared (now c).email ≡ true = ap (λ e. list_any (bytes_eq e) shared) (sym (touched_answers shared g b c (inl keys))) ∙ b_many in
+          both_same b c i j (neither (out_email c) (cut_class shared g g ts class c) o).1 b_is c_is off b_many c_many same (takes shared g ts (now b)) refl
+
+  pub careful_logins : IsCareful shared next out f ts
+  careful_logins = careful_if shared f ts next no_login out (λ b c i j o many keys. login_key b c i j o (block b) refl many keys)

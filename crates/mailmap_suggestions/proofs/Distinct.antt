@@ -1,6 +1,7 @@
 -- Distinct texts, and lists that are joined from a part for each.
-use Rattle.std.proofs.Common.{◌≡◌, ◌≢◌, Bool, true, false, true≢false, not, List, [], ◌∷◌, ◌++◌, map, filter, append-nil, bytes_eq, if◌then◌else◌, refl, sym, ap, ◌∙◌, rules, ◌⊎◌, inl, inr, subst, ⊎_elim}
+use Rattle.std.proofs.Common.{◌≡◌, ◌≢◌, Bool, true, false, true≢false, not, List, [], ◌∷◌, ◌++◌, map, filter, append-nil, bytes_eq, if◌then◌else◌, refl, sym, ap, ◌∙◌, rules, ◌⊎◌, inl, inr, subst, ⊎_elim, ◌||◌}
 use Rattle.std.specs.List.{AllByRecursion, flat_map, list_any}
+use Rattle.std.proofs.lemmas.Bool.{false_from_ne_true, or_right}
 use Rattle.std.proofs.lemmas.Cmp.{nat_list_eq_equiv}
 use Rattle.std.proofs.lemmas.List.Elements.{filter-append}
 use Rattle.mailmap_entries.specs.Folding.{Text}
@@ -100,3 +101,35 @@ in_filter p xs x i = at (λ y. p y ≡ true → y ∈ filter p xs) xs (all_unfil
 pub from_filter : {X : Type 0} (p : X → Bool) (xs : List X) (x : X) → x ∈ filter p xs → (x ∈ xs) × (p x ≡ true)
 from_filter p xs x i = at (λ y. (y ∈ xs) × (p y ≡ true)) (filter p xs)
     (all_filtered p (λ y. y ∈ xs) (λ y. (y ∈ xs) × (p y ≡ true)) (λ y j passes. (j, passes)) xs (each (λ y. y ∈ xs) xs (λ y j. j))) x i
+
+pub any_at : {X : Type 0} (p : X → Bool) (xs : List X) (x : X) → x ∈ xs → p x ≡ true → list_any p xs ≡ true
+any_at p [] x i is = absurd i
+any_at p (y ∷ ys) x i is = ⊎_elim (λ same. ap (λ b. b || list_any p ys) (ap p same ∙ is)) (λ later. or_right (p y) (list_any p ys) (any_at p ys x later is)) i
+
+-- ---- an element of joined parts
+
+pub in_left : {X : Type 0} (xs ys : List X) (x : X) → x ∈ xs → x ∈ (xs ++ ys)
+in_left [] ys x i = absurd i
+in_left (z ∷ xs) ys x i = ⊎_elim (λ same. inl same) (λ later. inr (in_left xs ys x later)) i
+
+pub in_right : {X : Type 0} (xs ys : List X) (x : X) → x ∈ ys → x ∈ (xs ++ ys)
+in_right [] ys x i = i
+in_right (z ∷ xs) ys x i = inr (in_right xs ys x i)
+
+pub in_joined : {X Y : Type 0} (part : X → List Y) (xs : List X) (x : X) (y : Y) → x ∈ xs → y ∈ part x → y ∈ flat_map part xs
+in_joined part [] x y i j = absurd i
+in_joined part (z ∷ xs) x y i j = ⊎_elim (λ same. in_left (part z) (flat_map part xs) y (subst (λ w. y ∈ part w) (sym same) j))
+    (λ later. in_right (part z) (flat_map part xs) y (in_joined part xs x y later j)) i
+
+in_distinct : (xs : List Text) (k : Text) → list_any (bytes_eq k) xs ≡ true → k ∈ distinct xs
+in_distinct [] k among = absurd (true≢false (sym among))
+in_distinct (x ∷ xs) k among = by (bytes_eq k x) refl among (in_distinct xs k)
+  where
+    by : (b : Bool) → bytes_eq k x ≡ b → (b || list_any (bytes_eq k) xs) ≡ true → (list_any (bytes_eq k) xs ≡ true → k ∈ distinct xs) → k ∈ distinct (x ∷ xs)
+    by true same rest later = inl (sym (same_bytes k x same))
+    by false other rest later = inr (in_filter (λ y. not (bytes_eq x y)) (distinct xs) k (later rest)
+        (ap not (false_from_ne_true (bytes_eq x k) (λ same. true≢false (sym (equal_bytes k x (sym (same_bytes x k same))) ∙ other)))))
+
+-- what holds of all of them holds of the part for a text
+pub part_joined : {Y : Type 0} (P : Y → Type 0) (part : Text → List Y) (k : Text) (xs : List Text) → list_any (bytes_eq k) xs ≡ true → AllByRecursion P (flat_map part (distinct xs)) → AllByRecursion P (part k)
+part_joined P part k xs among all = each P (part k) (λ y i. at P (flat_map part (distinct xs)) all y (in_joined part (distinct xs) k y (in_distinct xs k among) i))

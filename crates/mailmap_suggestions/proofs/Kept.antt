@@ -14,20 +14,20 @@ use Rattle.mailmap_entries.proofs.Parts.{all_head, all_tail, all_weaker, filter-
 use Rattle.mailmap_contacts.specs.Contacts.{Contact, Tally, answer_to}
 use Rattle.mailmap_contacts.proofs.Steps.{all_filtered}
 use Rattle.mailmap_suggestions.specs.Forms.{IsAnswered, Stays, alike, are_answered, distinct, entries_for_email, git_answer_to, is_answered, is_shared, is_short_enough, long_form, name_unless_empty, named_entries, named_form, needs_own_entry, of_old_email, own_key, plain_entries, plus, short_form}
-use Rattle.mailmap_suggestions.specs.GroupEntries.{HasNoEmptyName, all_entries, are_alike, are_cut, contacts, is_grouped, proper_answer, uncut, wanted_entries}
-use Rattle.mailmap_suggestions.specs.NewLines.{UnitesNew, lines_for}
+use Rattle.mailmap_suggestions.specs.GroupEntries.{HasNoEmptyName, all_entries, are_cut, contacts, is_grouped}
+use Rattle.mailmap_suggestions.specs.Selections.{lines_for}
 use Rattle.mailmap_suggestions.specs.Suggestions.{has_any, is_remembered, new_entries}
 use Rattle.mailmap_suggestions.proofs.Appended.{IsWanting, Linked, OfForms, OfPlain, SpellAlike, SpellsAs, Touches, accepted_all, affects, all_answered, answered_decides, both_forms, each_for_email, each_named, each_plain, email_all, forms_linked, forms_spelled, linked_email, last_joined, no_own, none_needed_if, none_of_key, of_email_all, one_of_key, own_fields, own_part, part_spelled, parts_answer, parts_stay, plain_exact, reaches, spelled, spelling_joined, spelling_stays, touched_email, unaffected, unaffected_part, unnamed_contact, unspelled_email}
-use Rattle.mailmap_suggestions.proofs.Distinct.{◌∈◌, all_among, all_joined, all_of, among_passing, at, each, equal_bytes, filter_joined, from_filter, in_filter, kept_part, no_part, same_bytes}
-use Rattle.mailmap_suggestions.proofs.Needed.{Given, HasOwn, Other, answered_without, by_own, for_others, good, needs_same, none_reached}
-use Rattle.mailmap_suggestions.proofs.United.{active_some, added_are, all_texts, alone, from_group, group, grouped_is, in_group, is_active, lines, members_are, part, part_off, part_on, text, wanted}
+use Rattle.mailmap_suggestions.proofs.Distinct.{◌∈◌, all_among, all_joined, all_of, at, each, equal_bytes, filter_joined, from_filter, in_filter, kept_part, no_part, same_bytes}
+use Rattle.mailmap_suggestions.proofs.Needed.{Given, HasOwn, Other, answered_without, by_own, for_others, good, needs_same, none_reached, old_email_is}
+use Rattle.mailmap_suggestions.proofs.United.{active_some, added_are, all_texts, alone, from_group, group, has_entries_is, in_group, is_active, lines, part, part_off, part_on, text, text_among, wanted}
 
 -- ==== what more entries before change
 
-some_not : {X : Type 0} {x : X} → Some x ≡ None → ⊥
+pub some_not : {X : Type 0} {x : X} → Some x ≡ None → ⊥
 some_not e = cc
 
-from_none : {X : Type 0} (o : Option X) → is_none o ≡ true → o ≡ None
+pub from_none : {X : Type 0} (o : Option X) → is_none o ≡ true → o ≡ None
 from_none None is = refl
 from_none (Some x) is = absurd (true≢false (sym is))
 
@@ -54,7 +54,7 @@ module _ (shared : List Text) (h more : List Mapping) (c : Contact) where
   spelled_before : spelled (h ++ more) c ≡ None → spelled h c ≡ None
   spelled_before none = left_none (spelled h c) (spelling more (folded c.email)) (sym (spelling_joined h more (folded c.email)) ∙ none)
 
-  own_before : own_fields (h ++ more) c ≡ None → own_fields h c ≡ None
+  pub own_before : own_fields (h ++ more) c ≡ None → own_fields h c ≡ None
   own_before none = right_none (last_fields more (own_key c)) (own_fields h c) (sym (last_joined h more (own_key c)) ∙ none)
 
   reached_before : (x : Mapping) → reaches (h ++ more) c x ≡ true → reaches h c x ≡ true
@@ -123,17 +123,13 @@ module _ (g more : List Mapping) (to : Contact) (email : Text) where
   abbrev after : List Mapping
   after = g ++ more
 
-  -- what a contact without an entry of its own needs: the short form never answers it
+  -- what a contact without an entry of its own needs
   pub record IsKept (c : Contact) : Type 0 where
     pub has_email : folded c.email ≡ email
     pub kept : IsAnswered g to c → IsAnswered after to c
     pub unowned : own_fields after c ≡ None
     pub wants : IsWanting after to c
-    pub no_short : folded to.email ≡ folded c.email → IsAnswered (g ++ short_form to ∷ []) to c → IsAnswered g to c
-
-  answers_all : (ds : List Contact) → AllByRecursion (IsAnswered g to) ds → are_answered (alike g) to ds ≡ true
-  answers_all [] all = refl
-  answers_all (d ∷ ds) all = λ i. (answered_decides g to d).1 all.0 i && answers_all ds all.1 i
+    pub short : folded to.email ≡ folded c.email → IsAnswered (g ++ short_form to ∷ []) to c → IsAnswered (after ++ short_form to ∷ []) to c
 
   pub plain_stays : (ps : List Contact) → AllByRecursion IsKept ps → (c : Contact) → c ∈ ps → IsAnswered (after ++ plain_entries (alike g) to ps) to c
   plain_stays [] all c i = absurd i
@@ -141,12 +137,11 @@ module _ (g more : List Mapping) (to : Contact) (email : Text) where
       let this = at IsKept (b ∷ bs) all c i in
       elim (are_answered (alike g) to (b ∷ bs)) as (λ r. are_answered (alike g) to (b ∷ bs) ≡ r → IsAnswered (after ++ (if r then [] else (if is_short_enough (alike g) to b bs then short_form to else long_form to b) ∷ [])) to c) [
         | true ↦ λ yes. subst (λ l. IsAnswered l to c) (sym (append-nil after)) (this.kept (at (IsAnswered g to) (b ∷ bs) (all_answered g to (b ∷ bs) yes) c i))
-        | false ↦ λ out. elim (is_short_enough (alike g) to b bs) as (λ r. is_short_enough (alike g) to b bs ≡ r → IsAnswered (after ++ (if r then short_form to else long_form to b) ∷ []) to c) [
+        | false ↦ λ _. elim (is_short_enough (alike g) to b bs) as (λ r. is_short_enough (alike g) to b bs ≡ r → IsAnswered (after ++ (if r then short_form to else long_form to b) ∷ []) to c) [
           | true ↦ λ enough.
               let parts = and_parts (is_some (name_unless_empty to) && bytes_eq (folded to.email) (folded b.email)) (are_answered (plus (alike g) (short_form to ∷ [])) to (b ∷ bs)) enough in
-              let short = all_answered (g ++ short_form to ∷ []) to (b ∷ bs) parts.1 in
               let same : folded to.email ≡ email = same_bytes (folded to.email) (folded b.email) (and_parts (is_some (name_unless_empty to)) (bytes_eq (folded to.email) (folded b.email)) parts.0).1 ∙ all.0.has_email in
-              absurd (true≢false (sym (answers_all (b ∷ bs) (each (IsAnswered g to) (b ∷ bs) (λ d j. let k = at IsKept (b ∷ bs) all d j in k.no_short (same ∙ sym k.has_email) (at (IsAnswered (g ++ short_form to ∷ []) to) (b ∷ bs) short d j)))) ∙ out))
+              this.short (same ∙ sym this.has_email) (at (IsAnswered (g ++ short_form to ∷ []) to) (b ∷ bs) (all_answered (g ++ short_form to ∷ []) to (b ∷ bs) parts.1) c i)
           | false ↦ λ _. plain_exact after to b c (this.has_email ∙ sym all.0.has_email) this.unowned this.wants
         ] refl
       ] refl
@@ -389,38 +384,38 @@ module _ (shared : List Text) (g more : List Mapping) (named : AllByRecursion Ha
       let is : left ≡ filter keep own = filter-append keep plain own ∙ ap (λ l. l ++ filter keep own) none in
       subst (λ l. Stays later l c) (sym is) (parts_answer c (later ++ filter keep own) later (parts_stay later c (filter keep own) (spelling_stays later (filter keep own) c (kept_spelled c i)) (none_reached later c (filter keep own) others)))
 
-  module _ (kept : (c : Contact) → c ∈ cs → IsAnswered g to c → IsAnswered later to c) (plain_kept : (c : Contact) → c ∈ cs → needs_own_entry shared (alike g) c ≡ false → IsAnswered (later ++ plain) to c) where
-    with_plain : (c : Contact) → c ∈ cs → (n : Bool) → needs_own_entry shared (alike g) c ≡ n → IsAnswered (g ++ plain) to c → IsAnswered (later ++ plain) to c
-    with_plain c i false none before = plain_kept c i none
-    with_plain c i true needs before =
+  module _ (out : Contact → Bool) (kept : (c : Contact) → c ∈ cs → out c ≡ false → IsAnswered g to c → IsAnswered later to c) (plain_kept : (c : Contact) → c ∈ cs → out c ≡ false → needs_own_entry shared (alike g) c ≡ false → IsAnswered (later ++ plain) to c) where
+    with_plain : (c : Contact) → c ∈ cs → out c ≡ false → (n : Bool) → needs_own_entry shared (alike g) c ≡ n → IsAnswered (g ++ plain) to c → IsAnswered (later ++ plain) to c
+    with_plain c i o false none before = plain_kept c i o none
+    with_plain c i o true needs before =
         let apart = plain_apart c needs in
         let was = answered_without g plain to c (filter_none (reaches g c) plain (all_weaker plain (λ x no. false_from_ne_true (reaches g c x) (λ yes. no (affected_if shared g [] c x yes))) apart)) before in
         answered_with later plain to c (filter_none (reaches later c) plain (all_weaker plain (λ x no. false_from_ne_true (reaches later c x) (λ yes. no (affected_if shared g [] c x (reached_before shared g more c x yes)))) apart))
         (λ none. let unspelled = spelled_before shared g more c none in
         all_weaker plain (λ x as_it. as_it unspelled (own_shared c needs unspelled)) (all_head (SpellsAs shared g c) plain own (spelled_as c i)))
-        (kept c i was)
+        (kept c i o was)
 
     own_answers : (c : Contact) → c ∈ cs → HasOwn to (own_key c) (filter keep own) → IsAnswered (later ++ left) to c
     own_answers c i has = by_own to (later ++ left) (own_key c) c
         (last_joined later left (own_key c) ∙ ap (λ o. option_or o (last_fields later (own_key c))) (kept_own_is c ∙ has))
         refl (λ empty. unnamed_contact g c named ((at (Given shared g named to email) cs given c i).1 empty))
 
-    plain_answers : (c : Contact) → c ∈ cs → filter keep plain ≡ plain → AllByRecursion (Other (own_key c)) own → AllByRecursion (Other (own_key c)) (filter keep own) → IsAnswered (later ++ left) to c
-    plain_answers c i is others left_others = subst (λ l. IsAnswered l to c) (append_assoc later plain (filter keep own) ∙ ap (λ l. later ++ l) (sym (filter-append keep plain own ∙ ap (λ l. l ++ filter keep own) is)))
+    plain_answers : (c : Contact) → c ∈ cs → out c ≡ false → filter keep plain ≡ plain → AllByRecursion (Other (own_key c)) own → AllByRecursion (Other (own_key c)) (filter keep own) → IsAnswered (later ++ left) to c
+    plain_answers c i o is others left_others = subst (λ l. IsAnswered l to c) (append_assoc later plain (filter keep own) ∙ ap (λ l. later ++ l) (sym (filter-append keep plain own ∙ ap (λ l. l ++ filter keep own) is)))
         (answered_with (later ++ plain) (filter keep own) to c (none_reached (later ++ plain) c (filter keep own) left_others)
         (λ none. kept_spelled c i (spelled_before shared later plain c none))
-        (with_plain c i (needs_own_entry shared (alike g) c) refl (before_own to cs (g ++ plain) c i others)))
+        (with_plain c i o (needs_own_entry shared (alike g) c) refl (before_own to cs (g ++ plain) c i others)))
 
     -- a contact is answered if it has no line, or one is kept, and stays if not
-    pub answered_or_stays : (c : Contact) → c ∈ cs → ((is_dropped keep (plain ++ own) c ≡ false) × IsAnswered (later ++ left) to c) ⊎ ((is_dropped keep (plain ++ own) c ≡ true) × Stays later left c)
-    answered_or_stays c i = ⊎_elim
+    pub answered_or_stays : (c : Contact) → c ∈ cs → out c ≡ false → ((is_dropped keep (plain ++ own) c ≡ false) × IsAnswered (later ++ left) to c) ⊎ ((is_dropped keep (plain ++ own) c ≡ true) × Stays later left c)
+    answered_or_stays c i o = ⊎_elim
         (λ has. inl (kept_own keep (plain ++ own) c (kept_own_is c ∙ has), own_answers c i has))
         (λ none. ⊎_elim
         (λ has. inr (dropped_own keep (plain ++ own) c (own_is c ∙ has) (kept_own_is c ∙ none.0), own_stays_out c i has none.1))
         (λ never.
         let same : folded c.email ≡ email = (at (Given shared g named to email) cs given c i).0 in
         let dropped = without_own keep (plain ++ own) c plain (own_is c ∙ never.0) (ap (λ e. of_key (plain ++ own) (e, None)) same ∙ plain_keyed) in
-        ⊎_elim (λ all. inl (dropped ∙ all.1, plain_answers c i all.0 never.1 none.1)) (λ gone. inr (dropped ∙ gone.1, plain_stays_out c i gone.0 none.1)) kept_plain)
+        ⊎_elim (λ all. inl (dropped ∙ all.1, plain_answers c i o all.0 never.1 none.1)) (λ gone. inr (dropped ∙ gone.1, plain_stays_out c i gone.0 none.1)) kept_plain)
         (decide_own to (own_key c) own forms))
         (decide_own to (own_key c) (filter keep own) kept_forms)
 
@@ -436,9 +431,9 @@ keyed_other k x other = false_from_ne_true (keyed k x) (λ yes. other (ap (λ (k
 abbrev AnswersAlike : List Mapping → List Mapping → Contact → Type 0
 AnswersAlike l m c = (answer_to l c ≡ answer_to m c) × (git_answer_to l c ≡ git_answer_to m c)
 
-module _ (shared : List Text) (g more f : List Mapping) (ts : List Tally) (class : Contact → Text) (named : AllByRecursion HasNoEmptyName g)
+module _ (shared : List Text) (g more f : List Mapping) (ts : List Tally) (class : Contact → Text) (out : Contact → Bool) (named : AllByRecursion HasNoEmptyName g)
     (wants : (t : Text) → AllByRecursion (IsWanting g (wanted shared g f ts class t)) (group shared g f ts class t))
-    (together : (b c : Contact) → b ∈ contacts ts → c ∈ contacts ts → Touches shared g b c → text shared g f ts class b ≡ text shared g f ts class c)
+    (together : (b c : Contact) → b ∈ contacts ts → c ∈ contacts ts → out c ≡ false → Touches shared g b c → text shared g f ts class b ≡ text shared g f ts class c)
     (spell_alike : (b c : Contact) → b ∈ contacts ts → c ∈ contacts ts → text shared g f ts class b ≢ [] → SpellAlike shared g b c) (seen : List Text) where
   abbrev keep : Mapping → Bool
   keep e = not (is_remembered seen e)
@@ -503,8 +498,7 @@ module _ (shared : List Text) (g more f : List Mapping) (ts : List Tally) (class
       (own_part shared before c (λ e. filter keep (by_email t e)) (folded c.email) (apart_emails t some c i) (emails t) (email_among t c i))
 
   old_emails : (t e : Text) → AllByRecursion (λ x. folded x.old_email ≡ e) (by_email t e)
-  old_emails t e = each_for_email (λ x. folded x.old_email ≡ e) (to t) shared (alike g) (with_email t e) (each (OfForms (λ x. folded x.old_email ≡ e) (to t) shared (alike g)) (with_email t e)
-      (λ b j. let same = sym (from_email t e b j).1 in ((λ _. ((λ _ fits. fits ∙ same), same)), same)))
+  old_emails t e = old_email_is shared g (to t) e (those t)
 
   same_of_key : (t : Text) (c : Contact) → c ∈ those t → (k : Key) → k.0 ≡ folded c.email → of_key (whole t) k ≡ of_key (by_email t (folded c.email)) k
   same_of_key t c i k is = of_key_is (whole t) k ∙ kept_part (keyed k) (by_email t) (folded c.email) (emails t) (email_among t c i)
@@ -516,74 +510,70 @@ module _ (shared : List Text) (g more f : List Mapping) (ts : List Tally) (class
 
   -- ---- of all groups, one counts
 
-  apart_groups : (c : Contact) → c ∈ contacts ts → (t : Text) → AllByRecursion (λ x. SpellsAs shared before c x × (affects shared before c x ≡ true → t ≡ label c)) (filter keep (parts t))
-  apart_groups c i t = kept_all _ keep (parts t) (alone_after shared g more c (t ≡ label c) (parts t) (alone shared g f ts class named wants together spell_alike c i t))
+  apart_groups : (c : Contact) → c ∈ contacts ts → out c ≡ false → (t : Text) → AllByRecursion (λ x. SpellsAs shared before c x × (affects shared before c x ≡ true → t ≡ label c)) (filter keep (parts t))
+  apart_groups c i o t = kept_all _ keep (parts t) (alone_after shared g more c (t ≡ label c) (parts t) (alone shared g f ts class out named wants together spell_alike c i o t))
 
   added_left : filter keep added ≡ flat_map (λ t. filter keep (parts t)) (distinct texts)
   added_left = ap (filter keep) (added_are shared g f ts class) ∙ filter_joined keep parts (distinct texts)
 
-  label_among : (c : Contact) → c ∈ contacts ts → on (label c) ≡ true → list_any (bytes_eq (label c)) texts ≡ true
-  label_among c i is =
-      let passes : not (bytes_eq (label c) []) ≡ true = (and_parts (not (bytes_eq (label c) [])) (not (are_alike (alike f) (those (label c))) && not (are_cut (whole (label c)))) is).0 in
-      among_passing (λ t. not (bytes_eq t [])) (label c) (map label (contacts ts)) passes (at (λ c. list_any (bytes_eq (label c)) (map label (contacts ts)) ≡ true) (contacts ts) (all_among label (contacts ts)) c i)
-
-  by_own_group : (c : Contact) → c ∈ contacts ts → on (label c) ≡ true → AnswersAlike (before ++ filter keep added) (before ++ filter keep (whole (label c))) c
-  by_own_group c i is = subst (λ l. AnswersAlike (before ++ l) (before ++ filter keep (whole (label c))) c) (sym added_left)
+  by_own_group : (c : Contact) → c ∈ contacts ts → out c ≡ false → on (label c) ≡ true → AnswersAlike (before ++ filter keep added) (before ++ filter keep (whole (label c))) c
+  by_own_group c i o is = subst (λ l. AnswersAlike (before ++ l) (before ++ filter keep (whole (label c))) c) (sym added_left)
       (subst (λ l. AnswersAlike (before ++ flat_map (λ t. filter keep (parts t)) (distinct texts)) (before ++ filter keep l) c) (part_on shared g f ts class (label c) is)
-      (own_part shared before c (λ t. filter keep (parts t)) (label c) (apart_groups c i) texts (label_among c i is)))
+      (own_part shared before c (λ t. filter keep (parts t)) (label c) (apart_groups c i o) texts (text_among shared g f ts class c i is)))
 
-  none_for : (c : Contact) → c ∈ contacts ts → on (label c) ≡ false → (t : Text) → filter (affects shared before c) (filter keep (parts t)) ≡ []
-  none_for c i is t = elim (bytes_eq t (label c)) as (λ b. bytes_eq t (label c) ≡ b → filter (affects shared before c) (filter keep (parts t)) ≡ []) [
+  none_for : (c : Contact) → c ∈ contacts ts → out c ≡ false → on (label c) ≡ false → (t : Text) → filter (affects shared before c) (filter keep (parts t)) ≡ []
+  none_for c i o is t = elim (bytes_eq t (label c)) as (λ b. bytes_eq t (label c) ≡ b → filter (affects shared before c) (filter keep (parts t)) ≡ []) [
     | true ↦ λ same. ap (λ l. filter (affects shared before c) (filter keep l)) (part_off shared g f ts class t (ap on (same_bytes t (label c) same) ∙ is))
-    | false ↦ λ other. unaffected_part shared before c (λ t. filter keep (parts t)) (label c) (apart_groups c i) t (λ e. true≢false (sym (equal_bytes t (label c) e) ∙ other))
+    | false ↦ λ other. unaffected_part shared before c (λ t. filter keep (parts t)) (label c) (apart_groups c i o) t (λ e. true≢false (sym (equal_bytes t (label c) e) ∙ other))
   ] refl
 
-  pub others_stay : (c : Contact) → c ∈ contacts ts → on (label c) ≡ false → Stays before (filter keep added) c
-  others_stay c i is = parts_answer c (before ++ filter keep added) before (unaffected shared before c (filter keep added)
+  pub others_stay : (c : Contact) → c ∈ contacts ts → out c ≡ false → on (label c) ≡ false → Stays before (filter keep added) c
+  others_stay c i o is = parts_answer c (before ++ filter keep added) before (unaffected shared before c (filter keep added)
       (subst (AllByRecursion (SpellsAs shared before c)) (sym added_left) (all_joined (SpellsAs shared before c) (λ t. filter keep (parts t)) (distinct texts)
-      (all_of _ (part_spelled shared before c (λ t. filter keep (parts t)) (label c) (apart_groups c i)) (distinct texts))))
+      (all_of _ (part_spelled shared before c (λ t. filter keep (parts t)) (label c) (apart_groups c i o)) (distinct texts))))
       (ap (filter (affects shared before c)) added_left ∙ filter_joined (affects shared before c) (λ t. filter keep (parts t)) (distinct texts)
-      ∙ no_part (λ t. filter (affects shared before c) (filter keep (parts t))) (distinct texts) (all_of _ (none_for c i is) (distinct texts))))
+      ∙ no_part (λ t. filter (affects shared before c) (filter keep (parts t))) (distinct texts) (all_of _ (none_for c i o is) (distinct texts))))
 
-  module _ (kept : (t : Text) (c : Contact) → t ≢ [] → c ∈ those t → IsAnswered g (to t) c → IsAnswered before (to t) c)
-      (plain_kept : (t e : Text) (c : Contact) → t ≢ [] → c ∈ with_email t e → needs_own_entry shared (alike g) c ≡ false
+  module _ (kept : (t : Text) (c : Contact) → t ≢ [] → c ∈ those t → out c ≡ false → IsAnswered g (to t) c → IsAnswered before (to t) c)
+      (plain_kept : (t e : Text) (c : Contact) → t ≢ [] → c ∈ with_email t e → out c ≡ false → needs_own_entry shared (alike g) c ≡ false
       → IsAnswered (before ++ plain_entries (alike g) (to t) (filter (λ d. not (needs_own_entry shared (alike g) d)) (with_email t e))) (to t) c) where
-    for_email : (t : Text) → t ≢ [] → (c : Contact) → c ∈ those t
+    for_email : (t : Text) → t ≢ [] → (c : Contact) → c ∈ those t → out c ≡ false
         → let es = by_email t (folded c.email) in ((is_dropped keep es c ≡ false) × IsAnswered (before ++ filter keep es) (to t) c) ⊎ ((is_dropped keep es c ≡ true) × Stays before (filter keep es) c)
-    for_email t some c i =
+    for_email t some c i o =
         let e = folded c.email in
         answered_or_stays shared g more named (to t) e (with_email t e) (of_email_all (IsWanting g (to t)) (those t) e (wants t))
-        (λ b d j k. alike_in t some b d (from_email t e b j).0 (from_email t e d k).0) keep
+        (λ b d j k. alike_in t some b d (from_email t e b j).0 (from_email t e d k).0) keep out
         (λ d j. kept t d some (from_email t e d j).0) (λ d j. plain_kept t e d some j)
-        c (in_filter (λ d. bytes_eq e (folded d.email)) (those t) c i (equal_bytes e e refl))
+        c (in_filter (λ d. bytes_eq e (folded d.email)) (those t) c i (equal_bytes e e refl)) o
 
     -- a contact of a group is answered, or its line isn't kept and it stays
-    pub answered_unless : (c : Contact) → c ∈ contacts ts → on (label c) ≡ true
+    pub answered_unless : (c : Contact) → c ∈ contacts ts → out c ≡ false → on (label c) ≡ true
         → ((is_dropped keep (whole (label c)) c ≡ false) × IsAnswered (before ++ filter keep added) (to (label c)) c) ⊎ ((is_dropped keep (whole (label c)) c ≡ true) × Stays before (filter keep added) c)
-    answered_unless c i is =
+    answered_unless c i o is =
         let t = label c in
         let some = active_some shared g f ts class t is in
         let j = in_group shared g f ts class c i in
-        let groups = by_own_group c i is in
+        let groups = by_own_group c i o is in
         let emails = by_own_email t some c j in
         let ours = groups.0 ∙ emails.0 in
         let gits = groups.1 ∙ emails.1 in
         let same = dropped_same t c j in
-        ⊎_elim (λ (out, answered). inl (same ∙ out, (ours ∙ answered.0, gits ∙ answered.1))) (λ (out, stays). inr (same ∙ out, (ours ∙ stays.0, gits ∙ stays.1))) (for_email t some c j)
+        ⊎_elim (λ (none, answered). inl (same ∙ none, (ours ∙ answered.0, gits ∙ answered.1))) (λ (gone, stays). inr (same ∙ gone, (ours ∙ stays.0, gits ∙ stays.1))) (for_email t some c j o)
 
-    pub unites_new : UnitesNew seen shared (uncut shared class (alike g) (alike f) ts) g before f ts (before ++ new_entries seen added)
-    unites_new = record {
-      grouped = each _ (contacts ts) (λ c i is.
-          let active = sym (grouped_is shared g f ts class c) ∙ (and_parts (is_grouped (uncut shared class (alike g) (alike f) ts) (alike f) ts c) _ is).0 in
-          let new = (and_parts (is_grouped (uncut shared class (alike g) (alike f) ts) (alike f) ts c) _ is).1 in
-          let members_is = members_are shared g f ts class named wants together spell_alike c active in
-          subst (λ m. IsAnswered (before ++ new_entries seen added) (proper_answer shared (alike f) m) c) (sym members_is)
-          (⊎_elim (λ (out, answered). answered) (λ (out, stays). absurd (true≢false (sym new ∙ ap not (ap (λ m. is_dropped keep (wanted_entries shared (alike g) (alike f) m) c) members_is ∙ out)))) (answered_unless c i active)));
-      others = each _ (contacts ts) (λ c i is. ⊎_elim
-          (λ active.
-          let members_is = members_are shared g f ts class named wants together spell_alike c active in
-          ⊎_elim (λ (out, answered). absurd (true≢false (sym (λ k. (grouped_is shared g f ts class c ∙ active) k && not ((ap (λ m. is_dropped keep (wanted_entries shared (alike g) (alike f) m) c) members_is ∙ out) k)) ∙ is)))
-          (λ (out, stays). stays) (answered_unless c i active))
-          (λ off. others_stay c i off)
-          (cases_Bool (on (label c))));
-    }
+    -- whether its group has entries, and its line is kept or it has none
+    abbrev pub united : Contact → Bool
+    united c = (is_grouped class (alike f) ts c && not (are_cut (whole (label c)))) && not (is_dropped keep (whole (label c)) c)
+
+    abbrev entries_is : (c : Contact) → (is_grouped class (alike f) ts c && not (are_cut (whole (label c)))) ≡ on (label c)
+    entries_is = has_entries_is shared g f ts class
+
+    pub united_answered : (c : Contact) → c ∈ contacts ts → out c ≡ false → united c ≡ true → IsAnswered (before ++ new_entries seen added) (to (label c)) c
+    united_answered c i o is =
+        let parts = and_parts (is_grouped class (alike f) ts c && not (are_cut (whole (label c)))) (not (is_dropped keep (whole (label c)) c)) is in
+        ⊎_elim (λ (none, answered). answered) (λ (gone, stays). absurd (true≢false (sym parts.1 ∙ ap not gone))) (answered_unless c i o (sym (entries_is c) ∙ parts.0))
+
+    pub not_united_stays : (c : Contact) → c ∈ contacts ts → out c ≡ false → united c ≡ false → Stays before (new_entries seen added) c
+    not_united_stays c i o is = ⊎_elim
+        (λ active. ⊎_elim (λ (none, answered). absurd (true≢false (sym (λ k. (entries_is c ∙ active) k && not (none k)) ∙ is))) (λ (gone, stays). stays) (answered_unless c i o active))
+        (λ off. others_stay c i o off)
+        (cases_Bool (on (label c)))

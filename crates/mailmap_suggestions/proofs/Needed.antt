@@ -15,15 +15,15 @@ use Rattle.mailmap_entries.proofs.Parts.{all_append, all_head, all_tail, all_wea
 use Rattle.mailmap_contacts.specs.Contacts.{Contact, Tally, answer_to}
 use Rattle.mailmap_contacts.proofs.Steps.{all_filtered}
 use Rattle.mailmap_suggestions.specs.Forms.{IsAnswered, alike, are_answered, distinct, entries_for_email, entries_to, git_answer_to, is_answered, is_short_enough, long_form, name_unless_empty, named_entries, named_form, needs_own_entry, of_old_email, own_key, plain_entries, short_form}
-use Rattle.mailmap_suggestions.specs.GroupEntries.{HasNoEmptyName, NoneCut, NoneCutIf, all_entries, contacts, email_class, email_entries, only, uncut, uncut_email_class, wanted_entries, with_classes, with_emails}
-use Rattle.mailmap_suggestions.specs.Needed.{EachNeeded}
-use Rattle.mailmap_suggestions.proofs.Appended.{Fits, IsCareful, IsWanting, SpellAlike, SpellsAs, Touches, affects, answer_is, answered_decides, both_forms, each_for_email, each_named, email_all, fields, forms_linked, forms_spelled, git_is, last_joined, made, none_of_key, of_email_all, one_of_key, only_affecting, only_keys, other_unreached, parts_answer, reaches, spelled, spelling_joined, touched_email, unnamed_contact, with_email}
+use Rattle.mailmap_suggestions.specs.GroupEntries.{HasNoEmptyName, contacts, email_class, only, with_classes, with_emails}
+use Rattle.mailmap_suggestions.specs.Selections.{EachNeeded, GetProperWith}
+use Rattle.mailmap_suggestions.proofs.Appended.{Fits, IsCareful, IsWanting, OfForms, SpellAlike, SpellsAs, Touches, affects, answer_is, answered_decides, both_forms, each_for_email, each_named, email_all, fields, forms_linked, forms_spelled, git_is, last_joined, made, none_of_key, of_email_all, one_of_key, only_affecting, only_keys, other_unreached, parts_answer, reaches, spelled, spelling_joined, touched_email, unnamed_contact, with_email}
 use Rattle.mailmap_suggestions.proofs.Distinct.{◌∈◌, all_joined, all_of, at, each, equal_bytes, filter_joined, from_filter, no_part, same_bytes}
-use Rattle.mailmap_suggestions.proofs.United.{active_some, added_are, all_texts, alone, email_spell, email_together, from_group, group, grouped_is, is_active, lines, members_are, next_spell, next_together, next_wants, only_some, part, part_off, part_on, proper_same, proper_wanting, spell, text, emails_named, these, together_by, touched_answers, wanted}
+use Rattle.mailmap_suggestions.proofs.United.{active_some, added_are, all_texts, alone, cut_before, cut_for_names, cut_for_next, email_spell, email_together, emails_named, from_group, group, has_entries_is, is_active, lines, never, next_for, next_spell, next_wants, only_some, part, part_off, part_on, proper_wanting, spell, text, these, together_for, touched_answers, wanted}
 
 -- ==== lists that are split
 
-none_split : {X : Type 0} (a b : List X) (x : X) → [] ≡ a ++ x ∷ b → ⊥
+pub none_split : {X : Type 0} (a b : List X) (x : X) → [] ≡ a ++ x ∷ b → ⊥
 none_split [] b x e = cc
 none_split (z ∷ a) b x e = cc
 
@@ -298,7 +298,7 @@ module _ (shared : List Text) (h : List Mapping) where
 
   module _ (part : Text → List Mapping) (to : Text → Contact) (P : Text → Contact → Type 0)
       (alone : (t : Text) (c : Contact) → P t c → (s : Text) → AllByRecursion (λ x. SpellsAs shared h c x × (affects shared h c x ≡ true → s ≡ t)) (part s))
-      (each_part : (t : Text) (front rest : List Mapping) (x : Mapping) → part t ≡ front ++ x ∷ rest → (c : Contact) × P t c × (IsAnswered (h ++ (front ++ rest)) (to t) c → ⊥)) where
+      (x : Mapping) (each_part : (t : Text) (front rest : List Mapping) → part t ≡ front ++ x ∷ rest → (c : Contact) × P t c × (IsAnswered (h ++ (front ++ rest)) (to t) c → ⊥)) where
     spells : (t : Text) (c : Contact) → P t c → (ts : List Text) → AllByRecursion (SpellsAs shared h c) (flat_map part ts)
     spells t c p ts = all_joined (SpellsAs shared h c) part ts (all_of (λ s. AllByRecursion (SpellsAs shared h c) (part s)) (λ s. all_weaker (part s) (λ x a. a.0) (alone t c p s)) ts)
 
@@ -306,13 +306,13 @@ module _ (shared : List Text) (h : List Mapping) where
     unaffected t c p ts others = filter_joined (affects shared h c) part ts ∙ no_part (λ s. filter (affects shared h c) (part s)) ts
         (all_weaker ts (λ s other. filter_none (affects shared h c) (part s) (all_weaker (part s) (λ x a. false_from_ne_true (affects shared h c x) (λ yes. other (a.1 yes))) (alone t c p s))) others)
 
-    from_parts : (xs : List Text) (front rest : List Mapping) (x : Mapping) → flat_map part (distinct xs) ≡ front ++ x ∷ rest
+    from_parts : (xs : List Text) (front rest : List Mapping) → flat_map part (distinct xs) ≡ front ++ x ∷ rest
         → (t : Text) × (c : Contact) × P t c × (IsAnswered (h ++ (front ++ rest)) (to t) c → ⊥) × (l : List Mapping) × (r : List Mapping) × (part t ≡ l ++ x ∷ r)
-    from_parts xs front rest x is =
+    from_parts xs front rest is =
         let f = from_part part (distinct xs) front rest x is in
         let t = f.x in
         let once = others_once f.before f.after t (subst AreOnce f.are (distinct_once xs)) in
-        let m = each_part t f.front f.rest x f.whole in
+        let m = each_part t f.front f.rest f.whole in
         let l = flat_map part f.before in
         let r = flat_map part f.after in
         let mid = f.front ++ f.rest in
@@ -332,12 +332,19 @@ module _ (shared : List Text) (h : List Mapping) where
 
 -- ==== the entries for any contacts
 
+-- those for one old email have it
+pub old_email_is : (shared : List Text) (h : List Mapping) (to : Contact) (t : Text) (cs : List Contact) → AllByRecursion (λ x. folded x.old_email ≡ t) (entries_for_email shared (alike h) to (of_old_email t cs))
+old_email_is shared h to t cs = each_for_email (λ x. folded x.old_email ≡ t) to shared (alike h) (of_old_email t cs) (each (OfForms (λ x. folded x.old_email ≡ t) to shared (alike h)) (of_old_email t cs)
+    (λ b j. let same = sym (same_bytes t (folded b.email) (from_filter (λ d. bytes_eq t (folded d.email)) cs b j).1) in ((λ _. ((λ _ fits. fits ∙ same), same)), same)))
+
 from_contacts : (shared : List Text) (h : List Mapping) → AllByRecursion HasNoEmptyName h → (to : Contact) (cs : List Contact) → AllByRecursion (IsWanting h to) cs
     → ((b c : Contact) → b ∈ cs → c ∈ cs → SpellAlike shared h b c) → (front rest : List Mapping) (x : Mapping) → entries_to shared (alike h) to cs ≡ front ++ x ∷ rest
-    → (c : Contact) × (c ∈ cs) × (IsAnswered (h ++ (front ++ rest)) to c → ⊥)
+    → (c : Contact) × (c ∈ cs) × (folded c.email ≡ folded x.old_email) × (IsAnswered (h ++ (front ++ rest)) to c → ⊥)
 from_contacts shared h named to cs wants alike_spelled front rest x is =
-    let m = from_parts shared h each_email (λ _. to) (λ t c. c ∈ of_old_email t cs) apart each_missed (map (λ c. folded c.email) cs) front rest x is in
-    (m.1, (of_cs m.0 m.1 m.2).0, m.3)
+    let m = from_parts shared h each_email (λ _. to) (λ t c. c ∈ of_old_email t cs) apart x each_missed (map (λ c. folded c.email) cs) front rest is in
+    let found = of_cs m.0 m.1 m.2 in
+    let email = (all_tail (λ x. folded x.old_email ≡ m.0) m.4 (x ∷ m.5) (subst (AllByRecursion (λ x. folded x.old_email ≡ m.0)) m.6 (old_email_is shared h to m.0 cs))).0 in
+    (m.1, found.0, sym found.1 ∙ sym email, m.3)
   where
     each_email : Text → List Mapping
     each_email t = entries_for_email shared (alike h) to (of_old_email t cs)
@@ -353,14 +360,14 @@ from_contacts shared h named to cs wants alike_spelled front rest x is =
         both_forms (SpellsAs shared h c) (λ x. affects shared h c x ≡ true → s ≡ t) to shared (alike h) b (forms_spelled shared h to b c (alike_spelled b c that.0 this.0))
         (forms_linked shared h to b c (s ≡ t) (λ touches. that.1 ∙ touched_email shared h b c touches ∙ sym this.1))))
 
-    each_missed : (t : Text) (front rest : List Mapping) (x : Mapping) → each_email t ≡ front ++ x ∷ rest → (c : Contact) × (c ∈ of_old_email t cs) × (IsAnswered (h ++ (front ++ rest)) to c → ⊥)
-    each_missed t = from_email shared h named to t (of_old_email t cs) (of_email_all (IsWanting h to) cs t wants) (λ b c i j. alike_spelled b c (of_cs t b i).0 (of_cs t c j).0)
+    each_missed : (t : Text) (front rest : List Mapping) → each_email t ≡ front ++ x ∷ rest → (c : Contact) × (c ∈ of_old_email t cs) × (IsAnswered (h ++ (front ++ rest)) to c → ⊥)
+    each_missed t front rest = from_email shared h named to t (of_old_email t cs) (of_email_all (IsWanting h to) cs t wants) (λ b c i j. alike_spelled b c (of_cs t b i).0 (of_cs t c j).0) front rest x
 
 -- ==== the entries of all groups
 
-module _ (shared : List Text) (base h : List Mapping) (ts : List Tally) (class : Contact → Text) (named : AllByRecursion HasNoEmptyName base)
+module _ (shared : List Text) (base h : List Mapping) (ts : List Tally) (class : Contact → Text) (out : Contact → Bool) (named : AllByRecursion HasNoEmptyName base)
     (wants : (t : Text) → AllByRecursion (IsWanting base (wanted shared base h ts class t)) (group shared base h ts class t))
-    (together : (b c : Contact) → b ∈ contacts ts → c ∈ contacts ts → Touches shared base b c → text shared base h ts class b ≡ text shared base h ts class c)
+    (together : (b c : Contact) → b ∈ contacts ts → c ∈ contacts ts → out c ≡ false → Touches shared base b c → text shared base h ts class b ≡ text shared base h ts class c)
     (alike_spelled : (b c : Contact) → b ∈ contacts ts → c ∈ contacts ts → text shared base h ts class b ≢ [] → SpellAlike shared base b c) where
   abbrev on : Text → Bool
   on = is_active shared base h ts class
@@ -372,7 +379,7 @@ module _ (shared : List Text) (base h : List Mapping) (ts : List Tally) (class :
   those = group shared base h ts class
 
   abbrev InBlock : Text → Contact → Type 0
-  InBlock t c = (c ∈ those t) × (on t ≡ true)
+  InBlock t c = (c ∈ those t) × (on t ≡ true) × (out c ≡ false)
 
   of_block : (t : Text) (c : Contact) → c ∈ those t → (c ∈ contacts ts) × (text shared base h ts class c ≡ t)
   of_block t c i = from_group shared base h ts class t c i
@@ -380,54 +387,57 @@ module _ (shared : List Text) (base h : List Mapping) (ts : List Tally) (class :
   apart_blocks : (t : Text) (c : Contact) → InBlock t c → (s : Text) → AllByRecursion (λ x. SpellsAs shared base c x × (affects shared base c x ≡ true → s ≡ t)) (part shared base h ts class s)
   apart_blocks t c b s =
       let found = of_block t c b.0 in
-      all_weaker (part shared base h ts class s) (λ x a. (a.0, λ yes. a.1 yes ∙ found.1)) (alone shared base h ts class named wants together alike_spelled c found.0 s)
+      all_weaker (part shared base h ts class s) (λ x a. (a.0, λ yes. a.1 yes ∙ found.1)) (alone shared base h ts class out named wants together alike_spelled c found.0 b.2 s)
 
-  each_block : (t : Text) (front rest : List Mapping) (x : Mapping) → part shared base h ts class t ≡ front ++ x ∷ rest → (c : Contact) × InBlock t c × (IsAnswered (base ++ (front ++ rest)) (to t) c → ⊥)
-  each_block t front rest x is = by (on t) refl
-    where
-      by : (b : Bool) → on t ≡ b → (c : Contact) × InBlock t c × (IsAnswered (base ++ (front ++ rest)) (to t) c → ⊥)
-      by false off = absurd (none_split front rest x (sym (part_off shared base h ts class t off) ∙ is))
-      by true is_on =
-          let some = active_some shared base h ts class t is_on in
-          let m = from_contacts shared base named (to t) (those t) (wants t)
-          (λ b c i j. let found = of_block t b i in alike_spelled b c found.0 (of_block t c j).0 (λ none. some (sym found.1 ∙ none)))
-          front rest x (sym (part_on shared base h ts class t is_on) ∙ is) in
-          (m.0, (m.1, is_on), m.2)
+  -- an entry with the old email of contacts that aren't left out
+  module _ (x : Mapping) (counted : (c : Contact) → c ∈ contacts ts → folded c.email ≡ folded x.old_email → out c ≡ false) where
+    each_block : (t : Text) (front rest : List Mapping) → part shared base h ts class t ≡ front ++ x ∷ rest → (c : Contact) × InBlock t c × (IsAnswered (base ++ (front ++ rest)) (to t) c → ⊥)
+    each_block t front rest is = by (on t) refl
+      where
+        by : (b : Bool) → on t ≡ b → (c : Contact) × InBlock t c × (IsAnswered (base ++ (front ++ rest)) (to t) c → ⊥)
+        by false off = absurd (none_split front rest x (sym (part_off shared base h ts class t off) ∙ is))
+        by true is_on =
+            let some = active_some shared base h ts class t is_on in
+            let m = from_contacts shared base named (to t) (those t) (wants t)
+            (λ b c i j. let found = of_block t b i in alike_spelled b c found.0 (of_block t c j).0 (λ none. some (sym found.1 ∙ none)))
+            front rest x (sym (part_on shared base h ts class t is_on) ∙ is) in
+            (m.0, (m.1, is_on, counted m.0 (of_block t m.0 m.1).0 m.2), m.3)
 
-  pub each_needed : EachNeeded shared (uncut shared class (alike base) (alike h) ts) base h ts (all_entries shared class (alike base) (alike h) ts)
-  each_needed front rest x is all =
-      let m = from_parts shared base (part shared base h ts class) to InBlock apart_blocks each_block (all_texts shared base h ts class) front rest x (sym (added_are shared base h ts class) ∙ is) in
-      let t = m.0 in
-      let c = m.1 in
-      let found = of_block t c m.2.0 in
-      let active : on (text shared base h ts class c) ≡ true = ap on found.1 ∙ m.2.1 in
-      let has : Contains (lines shared base h ts class t) x = subst (λ xs. Contains xs x) (sym m.6 ∙ part_on shared base h ts class t m.2.1) (in_middle m.4 m.5 x) in
-      let among = subst (λ g. Contains (wanted_entries shared (alike base) (alike h) g) x)
-      (sym (members_are shared base h ts class named wants together alike_spelled c active ∙ ap (these shared base h ts class) found.1)) has in
-      let answered = at _ (contacts ts) all c found.0 (grouped_is shared base h ts class c ∙ active) among in
-      m.3 (subst (λ a. IsAnswered (base ++ (front ++ rest)) a c) (proper_same shared base h ts class named wants together alike_spelled c active ∙ ap to found.1) answered)
+    needed : (front rest : List Mapping) → flat_map (part shared base h ts class) (distinct (all_texts shared base h ts class)) ≡ front ++ x ∷ rest
+        → GetProperWith (record { shared = shared; tallies = ts; class = class; base = base; grouped = h }) x (base ++ (front ++ rest)) → ⊥
+    needed front rest is all =
+        let m = from_parts shared base (part shared base h ts class) to InBlock apart_blocks x each_block (all_texts shared base h ts class) front rest is in
+        let t = m.0 in
+        let c = m.1 in
+        let found = of_block t c m.2.0 in
+        let active : on (text shared base h ts class c) ≡ true = ap on found.1 ∙ m.2.1 in
+        let has : Contains (lines shared base h ts class t) x = subst (λ xs. Contains xs x) (sym m.6 ∙ part_on shared base h ts class t m.2.1) (in_middle m.4 m.5 x) in
+        let among : Contains (lines shared base h ts class (text shared base h ts class c)) x = subst (λ k. Contains (lines shared base h ts class k) x) (sym found.1) has in
+        let answered = at _ (contacts ts) all c found.0 (has_entries_is shared base h ts class c ∙ active) among in
+        m.3 (subst (λ k. IsAnswered (base ++ (front ++ rest)) (to k) c) found.1 answered)
+
+  pub each_needed : EachNeeded out (record { shared = shared; tallies = ts; class = class; base = base; grouped = h })
+  each_needed front rest x is counted all = needed x (at _ (contacts ts) counted) front rest (sym (added_are shared base h ts class) ∙ is) all
 
 -- ==== by email, by names, and by logins
 
 module _ (shared : List Text) (h : List Mapping) (ts : List Tally) (named : AllByRecursion HasNoEmptyName h) where
-  pub needed_emails : EachNeeded shared (uncut_email_class shared h ts) h h ts (email_entries shared (alike h) ts)
-  needed_emails = each_needed shared h h ts (email_class shared) named (λ t. proper_wanting shared h (these shared h h ts (email_class shared) t)) (email_together shared h ts named) (email_spell shared h ts named)
+  pub needed_emails : EachNeeded never (record { shared = shared; tallies = ts; class = email_class shared; base = h; grouped = h })
+  needed_emails = each_needed shared h h ts (email_class shared) never named (λ t. proper_wanting shared h (these shared h h ts (email_class shared) t)) (email_together shared h ts named) (email_spell shared h ts named)
 
   abbrev g : List Mapping
   g = with_emails shared h ts
 
-  module _ (class : Contact → Text) (careful : IsCareful shared class g ts) (p : Text → Bool) where
-    pub needed_names : NoneCutIf (λ c. only p class (answer_to g c) ≢ []) shared (email_class shared) h ts
-        → EachNeeded shared (uncut shared (only p class) (alike g) (alike g) ts) g g ts (all_entries shared (only p class) (alike g) (alike g) ts)
-    needed_names whole = each_needed shared g g ts (only p class) (emails_named shared h ts named) (λ t. proper_wanting shared g (these shared g g ts (only p class) t))
-        (together_by shared h ts named class careful p whole) (spell shared h ts named class careful p whole)
+  module _ (class : Contact → Text) (careful : IsCareful shared class never g ts) where
+    pub needed_names : (p : Text → Bool) → EachNeeded (cut_for_names shared h ts named class careful p) (record { shared = shared; tallies = ts; class = only p class; base = g; grouped = g })
+    needed_names p = each_needed shared g g ts (only p class) (cut_for_names shared h ts named class careful p) (emails_named shared h ts named) (λ t. proper_wanting shared g (these shared g g ts (only p class) t))
+        (together_for shared h ts named class careful p) (spell shared h ts named class careful p)
 
-  module _ (none_cut : NoneCut shared (email_class shared) h ts) (class : Contact → Text) (careful : IsCareful shared class g ts) (next : Contact → Text)
-      (also : IsCareful shared next (with_classes shared class g ts) ts) (p : Text → Bool) where
     abbrev f : List Mapping
     f = with_classes shared class g ts
 
-    pub needed_logins : EachNeeded shared (uncut shared (only p next) (alike g) (alike f) ts) g f ts (all_entries shared (only p next) (alike g) (alike f) ts)
-    needed_logins = each_needed shared g f ts (only p next) (emails_named shared h ts named) (next_wants shared h ts named none_cut class careful next also p)
-        (λ b c i j touches. ap (λ k. if p k then k else []) (next_together shared h ts named none_cut class careful next also p b c i j touches))
-        (λ b c i j some. next_spell shared h ts named none_cut class careful next also p b c i j (only_some p (next (answer_to f b)) some).1)
+    pub needed_logins : ((c : Contact) → c ∈ contacts ts → (answer_to g c).name ≡ [] → class (answer_to g c) ≡ []) → (next : Contact → Text) (also : IsCareful shared next (cut_before shared h ts named class careful) f ts) (p : Text → Bool)
+        → EachNeeded (cut_for_next shared h ts named class careful next also p) (record { shared = shared; tallies = ts; class = only p next; base = g; grouped = f })
+    needed_logins unnamed next also p = each_needed shared g f ts (only p next) (cut_for_next shared h ts named class careful next also p) (emails_named shared h ts named) (next_wants shared h ts named class careful unnamed (only p next))
+        (next_for shared h ts named class careful next also p)
+        (λ b c i j some. next_spell shared h ts named class careful next also b c i j (only_some p (next (answer_to f b)) some).1)

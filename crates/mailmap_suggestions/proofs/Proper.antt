@@ -1,7 +1,7 @@
 -- Counted answers by frequency, and the proper one of them.
 use Rattle.std.proofs.Common.{◌≡◌, ◌∙◌, true, false, List, [], ◌∷◌, ap, if◌then◌else◌, refl, rules, sym, ◌≢◌, ◌&&◌, true≢false, Ordering, Less, Equal, Greater, arith, not}
 use Rattle.std.specs.List.{AllByRecursion, IsDistinct}
-use Rattle.std.proofs.lemmas.Bool.{and_parts}
+use Rattle.std.proofs.lemmas.Bool.{and_parts, not-true}
 use Rattle.std.proofs.lemmas.Cmp.{back_total, nat_cmp_total, nat_list_cmp_total, on_total, then_total}
 use Rattle.std.proofs.lemmas.Map.Text.{is_eq-slice_cmp}
 use Rattle.std.specs.Cmp.{IsTotalOrder}
@@ -132,3 +132,13 @@ none_proper shared ts = by (of_one_person shared ts)
     by : (l : List Tally) → AllByRecursion (λ a. has_text a.contact.name ≡ true) l → IsUnnamed (contact_or_nobody (proper (or_else l ts))) → Each IsUnnamed ts
     by [] named e = none_named ts e
     by (a ∷ rest) named e = absurd (true≢false (sym named.0 ∙ ap has_text (none_named (a ∷ rest) e).0))
+
+-- one person has its email if that is so of one with a name
+pub unshared_proper : (shared : List Text) (ts : List Tally) → of_one_person shared ts ≢ [] → is_shared shared (proper_of shared ts).email ≡ false
+unshared_proper shared ts = by (of_one_person shared ts)
+    (all_filtered (λ a. has_text a.contact.name && not (is_shared shared a.contact.email)) (λ _. Unit {0}) (λ a. is_shared shared a.contact.email ≡ false)
+    (λ a _ is. not-true (is_shared shared a.contact.email) (and_parts (has_text a.contact.name) (not (is_shared shared a.contact.email)) is).1) ts (all_any ts))
+  where
+    by : (l : List Tally) → AllByRecursion (λ a. is_shared shared a.contact.email ≡ false) l → l ≢ [] → is_shared shared (contact_or_nobody (proper (or_else l ts))).email ≡ false
+    by [] all some = absurd (some refl)
+    by (a ∷ rest) all some = all_named (λ c. is_shared shared c.email ≡ false) (a ∷ rest) some all

@@ -159,26 +159,6 @@ pub record Unites (shared : List Text) (class : Contact → Text) (h : List Mapp
       → (answer_to g c ≡ answer_to h c) × (git_answer_to g c ≡ git_answer_to h c)) (contacts ts)
   pub distinct : AllAgree class g (contacts ts)
 
--- The mappings g answer the contacts as `base` does, but those of each group by its proper answer. The groups are those
--- of the answers by h.
-pub record UnitesAlone (shared : List Text) (class : Contact → Text) (base h : List Mapping) (ts : List Tally)
-    (g : List Mapping) : Type 0 where
-  pub grouped : AllByRecursion (λ c. is_grouped class (alike h) ts c ≡ true
-      → IsAnswered g (proper_answer shared (alike h) (members class (alike h) ts (class (answer_to h c)))) c)
-      (contacts ts)
-  pub others : AllByRecursion (λ c. is_grouped class (alike h) ts c ≡ false
-      → (answer_to g c ≡ answer_to base c) × (git_answer_to g c ≡ git_answer_to base c)) (contacts ts)
-
--- git would cut no line that makes the answers of a class one
-abbrev pub NoneCut : List Text → (Contact → Text) → List Mapping → List Tally → Type 0
-NoneCut shared class h ts = AllByRecursion (λ c. are_cut (wanted_entries shared (alike h) (alike h)
-    (members class (alike h) ts (class (answer_to h c)))) ≡ false) (contacts ts)
-
--- at least for the classes of contacts with this property
-abbrev pub NoneCutIf : (Contact → Type 0) → List Text → (Contact → Text) → List Mapping → List Tally → Type 0
-NoneCutIf P shared class h ts = AllByRecursion (λ c. P c → are_cut (wanted_entries shared (alike h) (alike h)
-    (members class (alike h) ts (class (answer_to h c)))) ≡ false) (contacts ts)
-
 -- as in each contact that is read from a line
 pub record IsWritableContact (c : Contact) : Type 0 where
   pub name : c.name ≢ [] → IsWritableName c.name

@@ -6,6 +6,7 @@ pub mod Counted
 pub mod Private
 pub mod GitContacts
 pub mod Histories
+pub mod Keys
 pub mod EntryLines
 pub mod FindingViews
 pub mod FirstLogins
@@ -24,6 +25,4 @@ pub mod SuggestedText
 pub mod GroupEntries
 pub mod Written
 pub mod Views
-pub mod LinkedClasses
-pub mod Needed
-pub mod NewLines
+pub mod Selections

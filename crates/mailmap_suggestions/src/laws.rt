@@ -12,14 +12,13 @@ ghost use Rattle.mailmap_grammar.specs.Lines.{HoldsNo, mappings_of, reading, str
 ghost use Rattle.mailmap_suggestions.specs.Appending.{ends_line};
 ghost use Rattle.mailmap_suggestions.specs.Counted.{counted_answers};
 ghost use Rattle.mailmap_suggestions.specs.Forms.{Histories, IsAnswered, Stays, alike, is_shared, own_key};
-ghost use Rattle.mailmap_suggestions.specs.GroupEntries.{AllAgree, HasNoEmptyName, IsMostFrequent, IsWritableContact};
-ghost use Rattle.mailmap_suggestions.specs.GroupEntries.{NoneCut, NoneCutIf, Unites, UnitesAlone, all_entries};
-ghost use Rattle.mailmap_suggestions.specs.GroupEntries.{candidates, contacts, email_class, email_entries, only};
-ghost use Rattle.mailmap_suggestions.specs.GroupEntries.{proper_answer, uncut, uncut_email_class, with_classes};
-ghost use Rattle.mailmap_suggestions.specs.GroupEntries.{with_emails};
-ghost use Rattle.mailmap_suggestions.specs.LinkedClasses.{AreLoginClasses, AreNameClasses, AreNextClasses};
-ghost use Rattle.mailmap_suggestions.specs.Needed.{EachNeeded};
-ghost use Rattle.mailmap_suggestions.specs.NewLines.{UnitesNew};
+ghost use Rattle.mailmap_suggestions.specs.GroupEntries.{HasNoEmptyName, IsMostFrequent, IsWritableContact, Unites};
+ghost use Rattle.mailmap_suggestions.specs.GroupEntries.{candidates, contacts, email_entries, proper_answer};
+ghost use Rattle.mailmap_suggestions.specs.GroupEntries.{uncut_email_class, with_emails};
+ghost use Rattle.mailmap_suggestions.specs.Selections.{AllAgreeBut, AreAllNew, AreLinked, EachNeeded, Selection, Selects};
+ghost use Rattle.mailmap_suggestions.specs.Selections.{Stage, after_emails, after_logins, after_names, by_email, by_login};
+ghost use Rattle.mailmap_suggestions.specs.Selections.{by_name, has_cut_email, has_entries, is_left_out};
+ghost use Rattle.mailmap_suggestions.specs.Selections.{is_left_out_later, is_united, stage_entries, uncut_class};
 ghost use Rattle.mailmap_suggestions.specs.Suggestions.{GroupClasses, Suggestion, new_entries, suggestions};
 ghost use Rattle.mailmap_suggestions.specs.SuggestedText.{count_line, entry_line, feed_unless, mark, suggestions_text};
 ghost use Rattle.mailmap_suggestions.specs.Written.{ContactHoldsNoZero, HoldsNoZero, IsWritableSuggestion};
@@ -98,108 +97,43 @@ pub fn law_suggestions()
         → folded (answer_to h b).email ≡ folded (answer_to h c).email) (contacts ts)) (contacts ts) }
 {}
 
-/// The entries for alike names, after those for emails: for each selection of whole groups, which a test of their
-/// classes makes. All contacts of these groups get the proper answer of their group, by this library and by git, and
-/// others are answered as without them. No two answers have one email that one person has, and differ, then either.
-/// Beside what `law_suggestions` needs, git would cut no line for the email of an answer with a class that passes.
+/// The lines of any selection of whole groups, after those for emails. With those by name, contacts of these groups get
+/// the proper answer of their group, by this library and by git, and all others are answered as without them: also those
+/// whose line mailmaps remember. With those by login after them, it is so again. Left out are contacts of a group that
+/// needs a line that git would cut, if one of them is in a selected group of a later stage. No two answers have one email
+/// that one person has, and differ, then either; this also leaves out groups by login with a contact for whose email git
+/// would cut a line. Where no group by name, or none by login, is selected, nothing changes.
 pub fn law_selected()
-    ensures united { (shared : List Text) (h : List Mapping) (ts : List Tally) (class : Contact → Text)
-        (passes : Text → Bool) → AllByRecursion HasNoEmptyName h
-        → let g = with_emails shared h ts in AreNameClasses shared g ts class
-        → NoneCutIf (λ c. only passes class (answer_to g c) ≢ []) shared (email_class shared) h ts
-        → Unites shared (uncut shared (only passes class) (alike g) (alike g) ts) g ts
-        (with_classes shared (only passes class) g ts) }
-    ensures emails_stay { (shared : List Text) (h : List Mapping) (ts : List Tally) (class : Contact → Text)
-        (passes : Text → Bool) → AllByRecursion HasNoEmptyName h
-        → let g = with_emails shared h ts in AreNameClasses shared g ts class
-        → NoneCutIf (λ c. only passes class (answer_to g c) ≢ []) shared (email_class shared) h ts
-        → AllAgree (uncut_email_class shared h ts) (with_classes shared (only passes class) g ts) (contacts ts) }
+    ensures names { (s : Selection) → AllByRecursion HasNoEmptyName s.mappings → AreLinked s
+        → Selects s.seen (is_left_out s) (by_name s) (after_emails s) (after_names s) }
+    ensures logins { (s : Selection) → AllByRecursion HasNoEmptyName s.mappings → AreLinked s
+        → Selects s.seen (is_left_out_later s) (by_login s) (after_names s) (after_logins s) }
+    ensures emails_by_name { (s : Selection) → AllByRecursion HasNoEmptyName s.mappings → AreLinked s
+        → AllAgreeBut (is_left_out s) (uncut_class (by_email s)) (after_names s) (contacts s.tallies) }
+    ensures emails { (s : Selection) → AllByRecursion HasNoEmptyName s.mappings → AreLinked s
+        → AllAgreeBut (has_cut_email s) (uncut_class (by_email s)) (after_logins s) (contacts s.tallies) }
+    ensures no_names { (s : Selection) → ((k : Text) → s.names_pass k ≡ false) → after_names s ≡ after_emails s }
+    ensures no_logins { (s : Selection) → ((k : Text) → s.logins_pass k ≡ false) → after_logins s ≡ after_names s }
 {}
 
-/// The entries for answers that logins link: the groups are those of the answers with all entries for alike names,
-/// none of which anybody has to accept. For each selection of whole groups, all contacts of these groups get the
-/// proper answer of their group, by this library and by git, and others are answered as with the entries for emails.
-/// Git would cut no line for an email, or for alike names.
-pub fn law_selected_alone()
-    ensures { (shared : List Text) (h : List Mapping) (ts : List Tally) (class next : Contact → Text)
-        (passes : Text → Bool) → AllByRecursion HasNoEmptyName h → NoneCut shared (email_class shared) h ts
-        → let g = with_emails shared h ts in AreNameClasses shared g ts class → NoneCut shared class g ts
-        → let f = with_classes shared class g ts in AreLoginClasses shared f ts next
-        → UnitesAlone shared (uncut shared (only passes next) (alike g) (alike f) ts) g f ts
-        (g ++ all_entries shared (only passes next) (alike g) (alike f) ts) }
-{}
-
-/// The entries for answers that logins link, after those for any selection of whole groups by name: all contacts of the
-/// selected groups by login get the proper answer of their group, by this library and by git, and others are answered
-/// as with the selected groups by name alone, which `law_selected` is about. No two answers have one email that one
-/// person has, and differ, then either. Where a group by login is selected, the premises are those of
-/// `law_selected_alone`.
-pub fn law_selected_together()
-    ensures united { (shared : List Text) (h : List Mapping) (ts : List Tally) (class next : Contact → Text)
-        (passes next_passes : Text → Bool) → AllByRecursion HasNoEmptyName h
-        → let g = with_emails shared h ts in AreNameClasses shared g ts class
-        → ((k : Text) → next_passes k ≡ true → AreNextClasses shared h ts class next)
-        → let f = with_classes shared class g ts in
-        let s = with_classes shared (only passes class) g ts in
-        UnitesAlone shared (uncut shared (only next_passes next) (alike g) (alike f) ts) s f ts
-        (s ++ all_entries shared (only next_passes next) (alike g) (alike f) ts) }
-    ensures emails_stay { (shared : List Text) (h : List Mapping) (ts : List Tally) (class next : Contact → Text)
-        (passes next_passes : Text → Bool) → AllByRecursion HasNoEmptyName h
-        → let g = with_emails shared h ts in AreNameClasses shared g ts class
-        → NoneCutIf (λ c. only passes class (answer_to g c) ≢ []) shared (email_class shared) h ts
-        → ((k : Text) → next_passes k ≡ true → AreNextClasses shared h ts class next)
-        → let f = with_classes shared class g ts in
-        let s = with_classes shared (only passes class) g ts in
-        AllAgree (uncut_email_class shared h ts)
-        (s ++ all_entries shared (only next_passes next) (alike g) (alike f) ts) (contacts ts) }
-{}
-
-/// The same without the lines that mailmaps remember, of the entries for alike names and of those for logins after them:
-/// a contact whose line is remembered is answered as without its group, by this library and by git. Contacts of a group
-/// that have a new line, or need none, get the proper answer of the group.
-pub fn law_remembered()
-    ensures names { (seen shared : List Text) (h : List Mapping) (ts : List Tally) (class : Contact → Text)
-        (passes : Text → Bool) → AllByRecursion HasNoEmptyName h
-        → let g = with_emails shared h ts in AreNameClasses shared g ts class
-        → NoneCutIf (λ c. only passes class (answer_to g c) ≢ []) shared (email_class shared) h ts
-        → UnitesNew seen shared (uncut shared (only passes class) (alike g) (alike g) ts) g g g ts
-        (g ++ new_entries seen (all_entries shared (only passes class) (alike g) (alike g) ts)) }
-    ensures logins { (seen shared : List Text) (h : List Mapping) (ts : List Tally) (class next : Contact → Text)
-        (passes next_passes : Text → Bool) → AllByRecursion HasNoEmptyName h
-        → let g = with_emails shared h ts in AreNameClasses shared g ts class
-        → ((k : Text) → next_passes k ≡ true → AreNextClasses shared h ts class next)
-        → let f = with_classes shared class g ts in
-        let s = g ++ new_entries seen (all_entries shared (only passes class) (alike g) (alike g) ts) in
-        UnitesNew seen shared (uncut shared (only next_passes next) (alike g) (alike f) ts) g s f ts
-        (s ++ new_entries seen (all_entries shared (only next_passes next) (alike g) (alike f) ts)) }
-    ensures emails_stay { (seen shared : List Text) (h : List Mapping) (ts : List Tally) (class next : Contact → Text)
-        (passes next_passes : Text → Bool) → AllByRecursion HasNoEmptyName h
-        → let g = with_emails shared h ts in AreNameClasses shared g ts class
-        → NoneCutIf (λ c. only passes class (answer_to g c) ≢ []) shared (email_class shared) h ts
-        → ((k : Text) → next_passes k ≡ true → AreNextClasses shared h ts class next)
-        → let f = with_classes shared class g ts in
-        let s = g ++ new_entries seen (all_entries shared (only passes class) (alike g) (alike g) ts) in
-        AllAgree (uncut_email_class shared h ts)
-        (s ++ new_entries seen (all_entries shared (only next_passes next) (alike g) (alike f) ts)) (contacts ts) }
+/// Where mailmaps remember no line of some groups, contacts of all of them that have entries count as united. So after
+/// the entries for alike names no two answers have one class, and differ.
+pub fn law_none_remembered()
+    ensures united { (seen : List Text) (stage : Stage) → AreAllNew seen stage
+        → AllByRecursion (λ c. is_united seen stage c ≡ has_entries stage c) (contacts stage.tallies) }
+    ensures classes { (s : Selection) → AllByRecursion HasNoEmptyName s.mappings → AreLinked s
+        → AreAllNew s.seen (by_name s)
+        → AllAgreeBut (is_left_out s) (uncut_class (by_name s)) (after_names s) (contacts s.tallies) }
 {}
 
 /// Each suggested entry is needed: without it, some contact of a group that has it doesn't get the group's proper
-/// answer, by this library or by git. The premises are those of the laws before.
+/// answer, by this library or by git. Nothing is said of entries with the old email of a contact that is left out.
 pub fn law_each_needed()
-    ensures emails { (shared : List Text) (h : List Mapping) (ts : List Tally) → AllByRecursion HasNoEmptyName h
-        → EachNeeded shared (uncut_email_class shared h ts) h h ts (email_entries shared (alike h) ts) }
-    ensures names { (shared : List Text) (h : List Mapping) (ts : List Tally) (class : Contact → Text)
-        (passes : Text → Bool) → AllByRecursion HasNoEmptyName h
-        → let g = with_emails shared h ts in AreNameClasses shared g ts class
-        → NoneCutIf (λ c. only passes class (answer_to g c) ≢ []) shared (email_class shared) h ts
-        → EachNeeded shared (uncut shared (only passes class) (alike g) (alike g) ts) g g ts
-        (all_entries shared (only passes class) (alike g) (alike g) ts) }
-    ensures logins { (shared : List Text) (h : List Mapping) (ts : List Tally) (class next : Contact → Text)
-        (passes : Text → Bool) → AllByRecursion HasNoEmptyName h → NoneCut shared (email_class shared) h ts
-        → let g = with_emails shared h ts in AreNameClasses shared g ts class → NoneCut shared class g ts
-        → let f = with_classes shared class g ts in AreLoginClasses shared f ts next
-        → EachNeeded shared (uncut shared (only passes next) (alike g) (alike f) ts) g f ts
-        (all_entries shared (only passes next) (alike g) (alike f) ts) }
+    ensures emails { (s : Selection) → AllByRecursion HasNoEmptyName s.mappings → EachNeeded (λ _. false) (by_email s) }
+    ensures names { (s : Selection) → AllByRecursion HasNoEmptyName s.mappings → AreLinked s
+        → EachNeeded (is_left_out s) (by_name s) }
+    ensures logins { (s : Selection) → AllByRecursion HasNoEmptyName s.mappings → AreLinked s
+        → EachNeeded (is_left_out_later s) (by_login s) }
 {}
 
 /// The proper answer of contacts is a most frequent one of those that may be proper: those with a name and an email
@@ -222,10 +156,9 @@ pub fn law_suggested_lines()
 /// Whichever of some suggestions have marks before their lines, their text is read as the entries of the others, if
 /// lines can hold the suggestions. What is suggested for mappings and contacts that are read from lines is read as the
 /// entries for emails, whatever the classes and the remembered lines are; and with the marks deleted of some groups
-/// for alike names and for logins, as the entries for emails and those of these groups that no line remembers; the
-/// premises of `law_selected_alone` are needed only if there is one for logins. Git reads both as the same entries if
-/// no text of a mapping or of a contact holds a zero byte, at which git's reading of a line ends. With no marks
-/// deleted, the text is that of the suggestions.
+/// for alike names and for logins, as the entries for emails and those of these groups that no line remembers. Git reads
+/// both as the same entries if no text of a mapping or of a contact holds a zero byte, at which git's reading of a line
+/// ends. With no marks deleted, the text is that of the suggestions.
 pub fn law_suggested_text()
     ensures read { (is_marked : Suggestion → Bool) (found : List Suggestion)
         → AllByRecursion (λ s. IsWritableSuggestion (is_marked s) s) found
@@ -239,27 +172,17 @@ pub fn law_suggested_text()
         → AllByRecursion HoldsNoZero h → AllByRecursion (λ t. ContactHoldsNoZero t.contact) ts
         → git_mappings (suggestions_text (suggestions shared classes seen (alike h) ts))
         ≡ email_entries shared (alike h) ts }
-    ensures selected { (shared : List Text) (classes : GroupClasses) (passes next_passes : Text → Bool)
-        (seen : List Text) (h : List Mapping) (ts : List Tally) → AllByRecursion IsWritable h
-        → AllByRecursion (λ t. IsWritableContact t.contact) ts
-        → let g = with_emails shared h ts in AreNameClasses shared g ts classes.by_name
-        → ((k : Text) → next_passes k ≡ true → AreNextClasses shared h ts classes.by_name classes.by_login)
-        → let f = with_classes shared classes.by_name g ts in
-        mappings_of (selected_text shared classes passes next_passes seen (alike h) ts)
-        ≡ email_entries shared (alike h) ts
-        ++ new_entries seen (all_entries shared (only passes classes.by_name) (alike g) (alike g) ts
-        ++ all_entries shared (only next_passes classes.by_login) (alike g) (alike f) ts) }
-    ensures selected_gits { (shared : List Text) (classes : GroupClasses) (passes next_passes : Text → Bool)
-        (seen : List Text) (h : List Mapping) (ts : List Tally) → AllByRecursion IsWritable h
-        → AllByRecursion (λ t. IsWritableContact t.contact) ts
-        → AllByRecursion HoldsNoZero h → AllByRecursion (λ t. ContactHoldsNoZero t.contact) ts
-        → let g = with_emails shared h ts in AreNameClasses shared g ts classes.by_name
-        → ((k : Text) → next_passes k ≡ true → AreNextClasses shared h ts classes.by_name classes.by_login)
-        → let f = with_classes shared classes.by_name g ts in
-        git_mappings (selected_text shared classes passes next_passes seen (alike h) ts)
-        ≡ email_entries shared (alike h) ts
-        ++ new_entries seen (all_entries shared (only passes classes.by_name) (alike g) (alike g) ts
-        ++ all_entries shared (only next_passes classes.by_login) (alike g) (alike f) ts) }
+    ensures selected { (s : Selection) → AllByRecursion IsWritable s.mappings
+        → AllByRecursion (λ t. IsWritableContact t.contact) s.tallies → AreLinked s
+        → mappings_of (selected_text s.shared s.classes s.names_pass s.logins_pass s.seen (alike s.mappings) s.tallies)
+        ≡ stage_entries (by_email s)
+        ++ new_entries s.seen (stage_entries (by_name s) ++ stage_entries (by_login s)) }
+    ensures selected_gits { (s : Selection) → AllByRecursion IsWritable s.mappings
+        → AllByRecursion (λ t. IsWritableContact t.contact) s.tallies → AreLinked s
+        → AllByRecursion HoldsNoZero s.mappings → AllByRecursion (λ t. ContactHoldsNoZero t.contact) s.tallies
+        → git_mappings (selected_text s.shared s.classes s.names_pass s.logins_pass s.seen (alike s.mappings) s.tallies)
+        ≡ stage_entries (by_email s)
+        ++ new_entries s.seen (stage_entries (by_name s) ++ stage_entries (by_login s)) }
     ensures none_selected { (shared : List Text) (classes : GroupClasses) (seen : List Text) (h : Histories)
         (ts : List Tally)
         → selected_text shared classes (λ _. false) (λ _. false) seen h ts

@@ -1,11 +1,9 @@
 use Rattle.mailmap_snapshot.proofs.WritableLines.{all_read}
-use Rattle.mailmap_suggestions.specs.GroupEntries.{with_emails}
-use Rattle.mailmap_suggestions.proofs.Careful.{careful, careful_next}
-use Rattle.mailmap_suggestions.proofs.GitText.{git_reads_emails, git_reads_selected}
+use Rattle.mailmap_suggestions.proofs.GitText.{git_reads_emails}
 use Rattle.mailmap_suggestions.proofs.Selected.{none_selected}
 use Rattle.mailmap_suggestions.proofs.Texts.{lines_writable, text_read}
-use Rattle.mailmap_suggestions.proofs.United.{writable_named}
-use Rattle.mailmap_suggestions.proofs.Writable.{all_read_as_emails, selected_read}
+use Rattle.mailmap_suggestions.proofs.Selections.{text_selected, text_selected_by_git}
+use Rattle.mailmap_suggestions.proofs.Writable.{all_read_as_emails}
 use Rattle.mailmap_suggestions.proofs.laws.law_suggested_text.Goals as goal
 
 pub returns : goal.returns
@@ -13,10 +11,8 @@ returns c = record {
   read = text_read;
   emails = all_read_as_emails;
   gits = git_reads_emails;
-  selected = λ shared c p q seen h ts writable contacts are next. selected_read shared c p q seen h ts writable contacts (careful shared (with_emails shared h ts) ts c.by_name are)
-      (λ k passes. careful_next shared h ts (writable_named h writable) c.by_name c.by_login are (next k passes));
-  selected_gits = λ shared c p q seen h ts writable contacts free each_free are next. git_reads_selected shared c p q seen h ts writable contacts free each_free (careful shared (with_emails shared h ts) ts c.by_name are)
-      (λ k passes. careful_next shared h ts (writable_named h writable) c.by_name c.by_login are (next k passes));
+  selected = text_selected;
+  selected_gits = text_selected_by_git;
   none_selected = none_selected;
   mappings = all_read;
   contacts = lines_writable 1;
