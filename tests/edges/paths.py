@@ -100,6 +100,25 @@ def found():
     return f"{len(names)} odd paths, one of them of {LONGEST_PATH:,} bytes, and a named pipe: the mailmap there is read"
 
 
+# the beginning of a line is what GitHub takes for a command, and how it is printed
+COMMANDS = [
+    (b"::error", b"\\x3a:error"),
+    (b":", b"\\x3a"),
+    (b" ::error", b" \\x3a:error"),
+    (b" :", b" \\x3a"),
+    (b"\xc2\xa0\xe3\x80\x80::error", b"\xc2\xa0\xe3\x80\x80\\x3a:error"),
+    (b"\t::error", b"\\x09\\x3a:error"),
+]
+
+
+def commands():
+    for name, printed in COMMANDS:
+        Path(os.fsdecode(name)).write_bytes(b"x")
+        for words in [name], ["--stdin-name", name, "-"]:
+            wants(f"the name {name}", run(VERIFY, words, input=b"x"), 1, printed + b":1: error: no email in brackets [no-email]\n")
+    return f"{len(COMMANDS)} names that begin a line as a command to GitHub does: none is one"
+
+
 def options():
     """After --help nothing else counts. Only the first argument can be an option of mailmap_check."""
     for words, text in [
@@ -168,5 +187,6 @@ def shows():
     yield nowhere()
     yield unreadable()
     yield found()
+    yield commands()
     yield options()
     yield arguments()

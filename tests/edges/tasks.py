@@ -15,6 +15,11 @@ NO_EMAIL = b":1: error: no email in brackets [no-email]\n"
 SAME_NAME = b"<stdin>:3: note: B <M@y> (1) has the name of b <A@x> (2) [same-name]\n"
 ALIKE = b"# 2 b <A@x>\n# 1 B <M@y>\n#?b <A@x> <M@y>\n\n"
 MISSING = b"three: No such file or directory"
+# a name and an email that would control a terminal or GitHub, or that hide, and how they are shown
+HOSTILE = b"J\x1b[1m\xc2\x9b\xe2\x80\xae\xe2\x80\x8b\r##[error]x <h\x9b@x>"
+HARMLESS = b"J\\x1b[1m\\u009b\\u202e\\u200b\\x0d##\\x5berror]x <h\\x9b@x>"
+# a name whose escapes would make git read the end of a comment as a line
+CUT = b"1 " + b"\\x1b" * 249 + b"\\x.."
 # The program, its arguments, its input, the status, and the output or, with the status 2, the message.
 TASKS = [
     (CHECK, "", SPLIT, 0, b"N <a@x>\n"),
@@ -84,6 +89,14 @@ TASKS = [
     (VERIFY, "--suggest - one none", CONTACTS, 0, ALIKE),
     (VERIFY, "--suggest -", CONTACTS, 0, ALIKE),
     (VERIFY, "--suggest folder -", b"", 2, b"-: No such file or directory"),
+    (VERIFY, "--suggest -", b"J <h\x9b@x>\n" + HOSTILE + b"\n" + HOSTILE, 0,
+     b"# 2 " + HARMLESS + b"\n# 1 J <h\\x9b@x>\n" + HOSTILE + b"\n\n"),
+    (VERIFY, "--suggest -", b"\n".join(name + b" <s\x1b@x>" for name in (b"A", b"B", b"C", b"D")), 0,
+     b"# several people may share s\\x1b@x\n" + b"".join(b"# 1 %c <s\\x1b@x>\n" % name for name in b"ABCD") + b"\n"),
+    (VERIFY, "--suggest -", b"q <jane\x1broe@x>\nJane Roe <j@x>\n", 0, b"# login jane\\x1broe\n"
+     b"# 1 q <jane\\x1broe@x>\n# 1 Jane Roe <j@x>\n#?q <jane\x1broe@x> <j@x>\n\n"),
+    (VERIFY, "--suggest -", b"J <j@x>\nJ <j@x>\n" + b"\x1b" * 256 + b" <j@x>", 0,
+     b"# 2 J <j@x>\n# " + CUT + b"\nJ <j@x>\n\n"),
     (SHORTLOG, "", COUNTED, 0, b"     1\ta\n     2\tb\n"),
     (SHORTLOG, "mapped", COUNTED, 0, b"     2\tM\n     1\tb\n"),
     (SHORTLOG, "-n --", COUNTED, 0, b"     2\tb\n     1\ta\n"),
@@ -93,6 +106,9 @@ TASKS = [
     (SHORTLOG, "-n -- -e", COUNTED, 2, b"-e: No such file or directory"),
     (SHORTLOG, "mapped -h", COUNTED, 2, b"-h: No such file or directory"),
     (SHORTLOG, "--version -h", COUNTED, 0, b"mailmap_shortlog " + VERSION),
+    (SHORTLOG, "-e", HOSTILE, 0, b"     1\t" + HARMLESS + b"\n"),
+    # GitHub takes `::` at the beginning of a line for a command, also after white space, but no line begins so
+    (SHORTLOG, "", b"::error::x <e@x>", 0, b"     1\t::error::x\n"),
 ]
 # Without a file, the mailmap is .mailmap, if it is there.
 DEFAULT = [
@@ -251,6 +267,7 @@ def shows():
         wants_git_log(text, is_log)
     for text, shown in SHOWN:
         wants(f"{text} shown", run(VERIFY, ["--explain"], input=text), 0, shown + b" is no contact\n")
+        wants(f"{text} counted", run(SHORTLOG, ["-e"], input=text + b" <a@x>"), 0, b"     1\t" + shown + b" <a@x>\n")
     for line, reading in GIT_READS:
         wants_git_reading(line, reading)
     yield f"{len(TASKS) + len(DEFAULT)} tasks: options, files and standard input as the manual pages have them"

@@ -23,10 +23,15 @@ def folded(text):
     return text.lower()
 
 
-def trim(text):
-    """Trims white space at the start, and then at the end."""
+def trim_start(text):
     while text.startswith(WHITE_SPACE):
         text = text[len(next(white for white in WHITE_SPACE if text.startswith(white))):]
+    return text
+
+
+def trim(text):
+    """Trims white space at the start, and then at the end."""
+    text = trim_start(text)
     while text.endswith(WHITE_SPACE):
         text = text[:-len(next(white for white in WHITE_SPACE if text.endswith(white)))]
     return text

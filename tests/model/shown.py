@@ -1,9 +1,11 @@
-"""The model of how reports show texts: what is escaped, where long texts are cut, and which names look the same.
+"""The model of how texts are shown: what is escaped, where long texts are cut, and which names look the same.
 
-The definitions are in `specs` of `command_line` (`Shown`), of `mailmap_suggestions` (`Shortened`) and of
+The definitions are in `specs` of `shown_text` (`Shown`), of `mailmap_suggestions` (`Shortened`) and of
 `mailmap_report` (`Report`).
 """
 import unicodedata
+
+from mailmap import trim_start
 
 # the longest text that a finding shows whole
 LIMIT = 256
@@ -29,13 +31,20 @@ def escaped(character):
     return character
 
 
-def shown(text):
-    """The line of a report, with what could control a terminal, can't be seen or turns the direction of text escaped, and
-    what GitHub takes for commands: `##[`, and `::` at the beginning of a line."""
+def shown_text(text):
+    """A text with what could control a terminal, can't be seen or turns the direction of text escaped, and with `##[`,
+    which GitHub takes for a command."""
     characters = text.decode("utf-8", "surrogateescape")
-    line = "".join(map(escaped, characters)).replace("##[", "##\\x5b")
-    line = "\\x3a" + line[1:] if line.startswith("::") else line
-    return line.encode("utf-8", "surrogateescape") + b"\n"
+    return "".join(map(escaped, characters)).replace("##[", "##\\x5b").encode("utf-8", "surrogateescape")
+
+
+def shown(text):
+    """The line of a report, with escapes, also of what GitHub takes for a command at the beginning of a line, whatever
+    white space is before it: `::`."""
+    rest = trim_start(text)
+    if not rest.startswith(b"::"):
+        return shown_text(text) + b"\n"
+    return shown_text(text[: len(text) - len(rest)]) + b"\\x3a:" + shown_text(rest[2:]) + b"\n"
 
 
 def is_character(text):
@@ -45,14 +54,19 @@ def is_character(text):
         return False
 
 
-def shortened(text):
-    """The first 256 bytes of a long text, or up to three fewer so that no character is cut, and two dots."""
-    if len(text) <= LIMIT:
+def shortened(text, limit=LIMIT):
+    """As many bytes of a long text as the limit says, or up to three fewer so that no character is cut, and two dots."""
+    if len(text) <= limit:
         return text
     cut = [
-        start for start in range(LIMIT - 3, LIMIT) for end in range(LIMIT + 1, start + 5) if is_character(text[start:end])
+        start for start in range(limit - 3, limit) for end in range(limit + 1, start + 5) if is_character(text[start:end])
     ]
-    return text[:cut[0] if cut else LIMIT] + b".."
+    return text[:cut[0] if cut else limit] + b".."
+
+
+def comment(text):
+    """A comment with escapes. git would read what comes after 1,023 bytes as a line of its own, so a long one is cut."""
+    return b"# " + shortened(shown_text(text), 1000)
 
 
 def seen(text):

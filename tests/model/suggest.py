@@ -10,7 +10,7 @@ from findings import short_contact_text
 from git import git_answer, git_entries_of
 from mailmap import Entry, accepted, answer, contact_of, entries_of, folded, lines
 from names import VIA, are_related, first_words, keys, login, login_keys, marks
-from shown import shortened
+from shown import comment, shortened
 
 # the longest line that git reads whole, without its line feed
 LONGEST_LINE = 1022
@@ -354,10 +354,10 @@ def is_remembered(buffers, block):
 
 
 def block_text(buffers, block):
-    said = [b"# too long for git"] * block.is_too_long + [b"# " + head for head in block.heads]
-    said += [b"# %d %b" % (one.count, short_contact_text(*one.contact)) for one in block.answers]
-    said += [b"# %d %b by git" % (one.count, short_contact_text(*one.contact)) for one in block.gits]
-    return b"".join(line + b"\n" for line in [*said, *lines_to_print(buffers, block), b""])
+    said = [b"too long for git"] * block.is_too_long + block.heads
+    said += [b"%d %b" % (one.count, short_contact_text(*one.contact)) for one in block.answers]
+    said += [b"%d %b by git" % (one.count, short_contact_text(*one.contact)) for one in block.gits]
+    return b"".join(line + b"\n" for line in [*map(comment, said), *lines_to_print(buffers, block), b""])
 
 
 def suggest(buffers, contacts):

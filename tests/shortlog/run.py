@@ -66,7 +66,8 @@ def hostile(size=10_000_000):
     yield "a long email", b"J <" + long + b">", b"     1\tJ <" + long + b">\n", b""
     yield "empty emails", b"<>" * (size // 2), b"     1\t <>\n", b""
     yield ("zero bytes in contacts", b"J\0 <j@x\0>\n" * 2 + b"J <j@x\0>",
-           b"     2\tJ\0 <j@x\0>\n     1\tJ <j@x\0>\n", b"")
+           b"     2\tJ\\x00 <j@x\\x00>\n     1\tJ <j@x\\x00>\n", b"")
+    yield "a long name with escapes", b"\x1b" * size + b" <j@x>", b"     1\t" + b"\\x1b" * size + b" <j@x>\n", b""
     for byte in b"x<>\0":
         yield (f"byte {byte}", bytes([byte]) * size, b"",
                b"mailmap_shortlog: lines without a contact: 1; the first is line 1\n")

@@ -33,22 +33,29 @@ underway-broken {a} {b} c next left h (n, part) =
 pub underway-whole : {a b : Option (List ℕ)} (c : Option (List ℕ)) {text held : List ℕ} → IsUnderway text a b held → Appends b c held → Appends a c text
 underway-whole {a} {b} c {held = held} h rest = subst (Appends a c) (sym h.whole) (Appends-trans a b c h.written held h.appended rest)
 
+-- one more text is printed
+pub text-printed : {a b c : Option (List ℕ)} {text later : List ℕ} (held x rest : List ℕ) → IsUnderway text a b (held ++ (x ++ rest)) → IsUnderway (held ++ x) b c later → IsUnderway text a c (later ++ rest)
+text-printed {a} {b} {c} {later = later} held x rest before more = record {
+  written = before.written ++ more.written;
+  appended = Appends-trans a b c before.written more.written before.appended more.appended;
+  whole = cc (before.whole, more.whole, append_assoc held x rest, append_assoc more.written later rest, append_assoc before.written more.written (later ++ rest));
+}
+
+-- a write fails while it is printed
+pub text-broken : {a b : Option (List ℕ)} (c : Option (List ℕ)) {text : List ℕ} (held x rest : List ℕ) → IsUnderway text a b (held ++ (x ++ rest)) → (n : ℕ) × Appends b c (take n (held ++ x)) → (count : ℕ) × Appends a c (take count text)
+text-broken c held x rest before part = underway-broken c (held ++ x) rest (rw (← append_assoc) at before) part
+
 -- ---- the texts of items, one after another
 
 -- one more item is printed
 pub item-printed : {X : Type 0} (f : X → List ℕ) {xs rest : List X} {x : X} {a b c : Option (List ℕ)} {text later : List ℕ} (held : List ℕ) → xs ≡ x ∷ rest → IsUnderway text a b (held ++ flat_map f xs) → IsUnderway (held ++ f x) b c later
     → IsUnderway text a c (later ++ flat_map f rest)
-item-printed f {rest = rest} {x} {a} {b} {c} {later = later} held is before more = record {
-  written = before.written ++ more.written;
-  appended = Appends-trans a b c before.written more.written before.appended more.appended;
-  whole = let left = flat_map f rest in
-      cc (before.whole, more.whole, ap (flat_map f) is, append_assoc held (f x) left, append_assoc more.written later left, append_assoc before.written more.written (later ++ left));
-}
+item-printed f {rest = rest} {x} held is before more = text-printed held (f x) (flat_map f rest) (rw is at before) more
 
 -- a write fails while it is printed
 pub item-broken : {X : Type 0} (f : X → List ℕ) {xs rest : List X} {x : X} {a b : Option (List ℕ)} (c : Option (List ℕ)) {text : List ℕ} (held : List ℕ) → xs ≡ x ∷ rest → IsUnderway text a b (held ++ flat_map f xs)
     → (n : ℕ) × Appends b c (take n (held ++ f x)) → (count : ℕ) × Appends a c (take count text)
-item-broken f {rest = rest} {x} c held is before part = underway-broken c (held ++ f x) (flat_map f rest) (rw (is, ← append_assoc) at before) part
+item-broken f {rest = rest} {x} c held is before part = text-broken c held (f x) (flat_map f rest) (rw is at before) part
 
 -- no item is left
 pub items-printed : {X : Type 0} (f : X → List ℕ) {xs : List X} {a b : Option (List ℕ)} {text : List ℕ} (held : List ℕ) → xs ≡ [] → IsUnderway text a b (held ++ flat_map f xs) → IsUnderway text a b held

@@ -4,4 +4,3 @@ pub mod Files
 pub mod Messages
 pub mod Outcome
 pub mod Printing
-pub mod Shown

@@ -3,7 +3,7 @@ use Rattle.std.specs.Prelude.{ℕ, ◌-◌, List, [], ◌∷◌, ◌++◌, Resul
 use Rattle.std.specs.Global.{Vec}
 use Rattle.std.specs.declared.io.ErrorKind.{ErrorKind}
 use Rattle.std.specs.declared.io.ErrorKind.TheVariants as kind
-use Rattle.command_line.specs.Shown.{shown}
+use Rattle.shown_text.specs.Shown.{shown}
 use Rattle.command_line.specs.Failures.{Failure, File, GitLog, Input, Memory, Output}
 
 abbrev pub cause_text : ErrorKind → List ℕ

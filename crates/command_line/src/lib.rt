@@ -9,7 +9,6 @@ pub mod messages;
 pub mod outcome;
 pub mod piped;
 pub mod printer;
-pub mod shown;
 pub mod streams;
 
 /// The version of all programs, as in the file `VERSION`.

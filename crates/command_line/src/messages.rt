@@ -3,11 +3,11 @@ ghost use Rattle.std.specs.Prelude.{◌≡◌, ◌-◌, ◌++◌, [], IfOk, IsOk
 ghost use Rattle.command_line.specs.Files.{texts};
 ghost use Rattle.command_line.specs.Messages.{cause_text, failure_text, messages_or, program_message};
 ghost use Rattle.command_line.specs.Printing.{WritesText};
-ghost use Rattle.command_line.specs.Shown.{shown};
+ghost use Rattle.shown_text.specs.Shown.{shown};
 
 use crate::failure::Failure;
-use crate::shown::push_shown;
 use crate::streams::write_all;
+use shown_text::shown::push_shown;
 use std::alloc::{AllocError, Global};
 use std::io::{ErrorKind, Write};
 

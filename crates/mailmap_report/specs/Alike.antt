@@ -1,7 +1,7 @@
 -- Names that look the same.
 use Rattle.std.specs.Prelude.{◌&&◌, if◌then◌else◌, ℕ, Bool, List, [], bytes_eq, chars, codes, encode_utf8_all, filter, not}
 use Rattle.std.specs.Str.{is_utf8}
-use Rattle.command_line.specs.Shown.{is_hidden}
+use Rattle.shown_text.specs.Shown.{is_hidden}
 use Rattle.mailmap_entries.specs.Folding.{Text}
 use Rattle.mailmap_suggestions.specs.Shortened.{shortened}
 use Rattle.unicode_normalization.specs.Forms.{nfc}

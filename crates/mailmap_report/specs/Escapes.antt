@@ -1,7 +1,7 @@
 -- What JSON needn't escape, but controls a terminal or can't be seen.
 use Rattle.std.specs.Prelude.{ℕ, ◌/◌, ◌%◌, ◌-◌, ◌+◌, nat_lt, Bool, ◌||◌, ◌&&◌, if◌then◌else◌, List, [], ◌∷◌, ◌++◌, take, drop, Option, Some, None}
 use Rattle.bstr.specs.Utf8.{Decoded, pieces}
-use Rattle.command_line.specs.Shown.{is_hidden, last_four}
+use Rattle.shown_text.specs.Shown.{is_hidden, last_four}
 
 -- `\u` and four hexadecimal digits
 abbrev pub code_unit : ℕ → List ℕ

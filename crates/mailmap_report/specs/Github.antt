@@ -1,7 +1,7 @@
 -- What is reported at a line, as an annotation of GitHub.
 use Rattle.std.specs.Prelude.{◌==◌, ◌++◌, ℕ, if◌then◌else◌, [], ◌∷◌, codes, decimal}
 use Rattle.std.specs.List.{flat_map}
-use Rattle.command_line.specs.Shown.{shown}
+use Rattle.shown_text.specs.Shown.{shown}
 use Rattle.mailmap_entries.specs.Folding.{Text}
 use Rattle.mailmap_report.specs.Json.{Notice}
 use Rattle.mailmap_report.specs.Kinds.{kind_level, kind_name, level_name}

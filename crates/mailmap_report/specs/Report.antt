@@ -1,15 +1,17 @@
 -- The report of mailmaps and of contacts.
-use Rattle.std.specs.Prelude.{ℕ, Bool, if◌then◌else◌, ◌++◌, codes, ◌==◌, ◌||◌, true, false, List, [], ◌∷◌, Option, Some, None, decimal, drop, map, option_to_list, slice_index_or, unwrap_or}
+use Rattle.std.specs.Prelude.{ℕ, ◌-◌, Bool, if◌then◌else◌, ◌++◌, codes, ◌==◌, ◌||◌, true, false, List, [], ◌∷◌, Option, Some, None, decimal, drop, length, map, take, option_to_list, slice_index_or, unwrap_or}
 use Rattle.mailmap_entries.specs.Folding.{Text}
 use Rattle.std.specs.List.{flat_map, list_any, starts_with}
 use Rattle.std.specs.Option.{option_map}
+use Rattle.std.specs.Char.{is_whitespace}
+use Rattle.bstr.specs.Trim.{trim_start_by}
 use Rattle.mailmap_grammar.specs.Lines.{FaultKind, is_comment, no_email, missing_closing_bracket, empty_email, nothing_to_map, unclosed_second}
 use Rattle.mailmap_grammar.specs.CanonicalText.{bracketed_email, email_part, name_part}
 use Rattle.mailmap_entries.specs.Entries.{Mapping}
 use Rattle.mailmap_findings.specs.Findings.{NewContact, Finding, FindingKind, byte_order_mark, comment_in_line, fault, ignored_text, git_reads, no_effect, itself_mapped}
 use Rattle.mailmap_findings.specs.Git.{GitReading, Nothing, Entry, Lines}
 use Rattle.mailmap_redundancy.specs.declared.located.Position.{Position}
-use Rattle.command_line.specs.Shown.{escaped_byte, shown}
+use Rattle.shown_text.specs.Shown.{escaped_byte, shown}
 use Rattle.mailmap_report.specs.Alike.{alike_text}
 use Rattle.mailmap_report.specs.Github.{annotation_line}
 use Rattle.mailmap_report.specs.Json.{FileLine, Named, Notice, no_name, object_line}
@@ -149,10 +151,13 @@ abbrev pub notice_text : Notice → Text
 notice_text n = place_text n.place ++ codes ": " ++ level_name (kind_level n.kind) ++ codes ": "
     ++ n.message ++ codes " [" ++ kind_name n.kind ++ codes "]"
 
--- GitHub takes `::` at the beginning of a line for a command: then the first `:` is escaped.
+-- GitHub takes `::` at the beginning of a line for a command, whatever white space is before it: then the first `:` is
+-- escaped.
 unfoldable pub shown_from_start : Text → Text
-shown_from_start text = if starts_with (λ a b. a == b) text (codes "::")
-    then (escaped_byte 58 ++ 58 ∷ []) ++ shown (drop 2 text) else shown text
+shown_from_start text = let rest = trim_start_by is_whitespace text in
+    if starts_with (λ a b. a == b) rest (codes "::")
+    then shown (take (length text - length rest) text) ++ (escaped_byte 58 ++ 58 ∷ []) ++ shown (drop 2 rest)
+    else shown text
 
 -- a line of output with escapes
 abbrev pub shown_line : Text → Text

@@ -2,8 +2,8 @@
 ghost use Rattle.std.specs.Prelude.{◌≡◌, ◌++◌, bytes_eq, chars, string_bytes, IfOk, OnOk};
 ghost use Rattle.mailmap_report.specs.Alike.{alike_text, are_seen_alike, look_alike, seen, visible};
 
-use command_line::shown::is_hidden;
 use mailmap_suggestions::shortened::shortened;
+use shown_text::shown::is_hidden;
 use std::alloc::{AllocError, Global};
 use unicode_normalization::to_nfc;
 

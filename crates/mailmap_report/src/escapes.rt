@@ -3,7 +3,7 @@ ghost use Rattle.std.specs.Prelude.{◌≡◌, ◌++◌, OnOk};
 ghost use Rattle.mailmap_report.specs.Escapes.{code_unit, escaped_char, escaped_json, escaped_piece, is_escaped};
 
 use bstr::decode_utf8;
-use command_line::shown::{is_hidden, push_last_four};
+use shown_text::shown::{is_hidden, last_four};
 use std::alloc::AllocError;
 
 /// Appends JSON with the control characters from U+007F on, and the hidden characters, in its strings by their numbers, as
@@ -56,5 +56,5 @@ fn push_code_unit(line: &mut Vec<u8>, code: u32) -> Result<(), AllocError>
     ensures { OnOk result (line.new.items ≡ line.old.items ++ code_unit code) }
 {
     line.extend_from_slice(b"\\u")?;
-    push_last_four(line, code)
+    line.extend_from_slice(&last_four(code))
 }

@@ -98,7 +98,7 @@ impl<'p, 'm, 'a> Explainer<'p, 'm, 'a> {
     /// plain is no contact
     /// ```
     ///
-    /// The line is escaped by [`push_shown`](command_line::shown::push_shown), and so is `::` at its beginning.
+    /// The line is escaped by [`push_shown`](shown_text::shown::push_shown), and so is `::` at its beginning.
     pub fn explained_line(&self, line: &[u8]) -> Result<Vec<u8>, AllocError>
         ensures { IfOk result (λ text. text.items ≡ explained_line self.now line.now) }
     {

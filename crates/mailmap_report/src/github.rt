@@ -6,8 +6,8 @@ ghost use Rattle.mailmap_report.specs.Json.{notice_of};
 
 use crate::kinds::Level;
 use crate::notice::Notice;
-use command_line::shown::push_shown;
 use itoa::Buffer;
+use shown_text::shown::push_shown;
 use std::alloc::{AllocError, Global};
 use std::slice;
 

@@ -3,7 +3,7 @@ ghost use Rattle.std.specs.Prelude.{◌≡◌, ◌++◌, ◌∷◌, [], IfOk, Li
 ghost use Rattle.std.specs.Iterator.{YieldsFirstBy};
 ghost use Rattle.std.specs.Slice.Iter.{iter_rest};
 ghost use Rattle.command_line.specs.Files.{texts};
-ghost use Rattle.command_line.specs.Shown.{shown};
+ghost use Rattle.shown_text.specs.Shown.{shown};
 ghost use Rattle.mailmap_report.specs.Json.{notice_of};
 ghost use Rattle.mailmap_report.specs.Report.{Piece as ThePiece, notice_piece, notice_text, piece_of, pieces_beside};
 ghost use Rattle.mailmap_report.specs.Report.{report_pieces, reported_text, shown_line, text_of};
@@ -15,10 +15,11 @@ use crate::json::object_line;
 use crate::notice::{Notice, contact_notice, finding_notice, remark_notice};
 use crate::places::push_place;
 use crate::settings::{Format, Settings};
-use command_line::shown::{may_need_escapes, push_shown};
+use bstr::ByteSlice;
 use mailmap_findings::remarks::Remarks;
 use mailmap_findings::verify::Findings;
 use mailmap_suggestions::findings::ContactFinding;
+use shown_text::shown::{may_need_escapes, push_shown};
 use std::alloc::{AllocError, Global};
 use std::slice;
 
@@ -154,25 +155,34 @@ fn line_of(alloc: Global, notice: &Notice<'_>) -> Result<Vec<u8>, AllocError>
 }
 
 // Escapes a line, and ends it. Few lines need escapes, so others aren't copied.
-#[tactic(auto, unfolding(crate::specs::Report::shown_from_start))]
+#[tactic(auto, using(shown_text::proofs::Escapes::plain), unfolding(crate::specs::Report::shown_from_start))]
 pub(crate) fn shown_line(alloc: Global, mut text: Vec<u8>) -> Result<Vec<u8>, AllocError>
     ensures { IfOk result (λ line. line.items ≡ shown_line text.items) }
 {
-    if text.starts_with(b"::") {
-        return escaped_line(alloc, b"\\x3a:", &text[2..]);
+    let rest = text.as_slice().trim_start();
+    if rest.starts_with(b"::") {
+        let start = text.len().saturating_sub(rest.len());
+        return escaped_line(alloc, &text[..start], b"\\x3a:", &rest[2..]);
     }
     if may_need_escapes(text.as_slice()) {
-        return escaped_line(alloc, b"", text.as_slice());
+        return escaped_line(alloc, b"", b"", text.as_slice());
     }
     text.push(b'\n')?;
     Ok(text)
 }
 
-// The start as it is, and the rest escaped.
-fn escaped_line(alloc: Global, start: &[u8], rest: &[u8]) -> Result<Vec<u8>, AllocError>
-    ensures { IfOk result (λ line. line.items ≡ (start.now ++ shown rest.now) ++ 10 ∷ []) }
+// A start and a rest that are escaped, and between them what already is.
+fn escaped_line(
+    alloc: Global,
+    start: &[u8],
+    escaped: &[u8],
+    rest: &[u8],
+) -> Result<Vec<u8>, AllocError>
+    ensures { IfOk result (λ line. line.items ≡ (shown start.now ++ escaped.now ++ shown rest.now) ++ 10 ∷ []) }
 {
-    let mut line = Vec::from_slice(alloc, start)?;
+    let mut line = Vec::new(alloc);
+    push_shown(&mut line, start)?;
+    line.extend_from_slice(escaped)?;
     push_shown(&mut line, rest)?;
     line.push(b'\n')?;
     Ok(line)

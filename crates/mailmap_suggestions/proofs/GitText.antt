@@ -1,6 +1,5 @@
 -- git reads the text of suggestions as this library does, if it would cut none of its lines.
-use Rattle.std.proofs.Common.{◌≡◌, ◌≢◌, ◌+◌, ◌<◌, ◌≤◌, ◌==◌, ◌||◌, ℕ, zero, suc, Bool, true, false, true≢false, not, if◌then◌else◌, Option, Some, None, IfSome, option_map, unwrap_or, List, [], ◌∷◌, ◌++◌, map, append-nil, append_assoc, bytes_eq, codes, decimal, length, length-append, length-take, take, drop, length-drop, nat_lt, refl, sym, subst, ap, ◌∙◌, arith}
-use Rattle.std.specs.Fmt.{digits, digits_onto}
+use Rattle.std.proofs.Common.{◌≡◌, ◌≢◌, ◌+◌, ◌-◌, ◌<◌, ◌≤◌, ◌==◌, ◌||◌, ℕ, Bool, true, false, true≢false, not, if◌then◌else◌, Option, Some, None, IfSome, option_map, unwrap_or, List, [], ◌∷◌, ◌++◌, map, append-nil, append_assoc, bytes_eq, codes, decimal, length, length-append, length-take, take, drop, length-drop, nat_lt, refl, sym, subst, ap, ◌∙◌, arith}
 use Rattle.std.specs.List.{AllByRecursion, cons_option, flat_map}
 use Rattle.std.specs.Option.{option_and_then}
 use Rattle.std.proofs.lemmas.Bool.{cond-false, ltb-false, ne_eqb}
@@ -14,16 +13,15 @@ use Rattle.mailmap_grammar.specs.CanonicalText.{IsWritable, IsWritableName, brac
 use Rattle.mailmap_grammar.specs.Lines.{Closed, HoldsNo, ParsedContact, by_both, by_name as named, cut, cut_at_opening, is_comment, non_empty, split_once, with_first}
 use Rattle.mailmap_grammar.proofs.Cut.{cut-cut_at_closing}
 use Rattle.mailmap_grammar.proofs.SplitOnce.{once-none}
-use Rattle.mailmap_snapshot.specs.Contacts.{contact_line}
 use Rattle.mailmap_findings.proofs.GitLines.{entries-step, entries_empty}
 use Rattle.mailmap_findings.specs.Git.{GitContact, entry_of_both, entry_of_first, entry_of_text, git_contact, git_entries, part_entry}
 use Rattle.mailmap_findings.specs.GitAnswers.{git_mappings}
 use Rattle.mailmap_findings.specs.Positions.{whole_lines}
 use Rattle.mailmap_suggestions.specs.EntryLines.{is_cut_by_git}
 use Rattle.mailmap_suggestions.specs.Forms.{Histories, alike, name_unless_empty}
-use Rattle.mailmap_suggestions.specs.GroupEntries.{IsWritableContact, NoneCut, all_entries, are_alike, are_cut, contacts, email_class, email_entries, group_entries, groups, members, only, proper_answer, wanted_entries, with_classes, with_emails}
-use Rattle.mailmap_suggestions.specs.Shortened.{crosses, front_len, shortened}
-use Rattle.mailmap_suggestions.specs.SuggestedText.{by_git, comments, count_line, count_lines, cut_lines, entry_line, entry_lines, kind_lines, suggestion_text, suggestions_text}
+use Rattle.mailmap_suggestions.specs.GroupEntries.{IsWritableContact, all_entries, are_alike, are_cut, contacts, email_class, email_entries, group_entries, groups, members, only, proper_answer, wanted_entries, with_classes, with_emails}
+use Rattle.mailmap_suggestions.specs.Shortened.{crosses, front_len, short_contact, shortened, shortened_to}
+use Rattle.mailmap_suggestions.specs.SuggestedText.{by_git, comment, comments, count_line, count_lines, cut_lines, entry_line, entry_lines, kind_lines, suggestion_text, suggestions_text}
 use Rattle.mailmap_suggestions.specs.Suggestions.{GroupClasses, Kind, Suggestion, by_alike_names, by_email, by_login, by_name, by_shared_email, after_emails, after_names, email_key, email_kind, email_suggestions, entries_for, has_any, is_of_several, is_remembered, login_kind, login_suggestions, name_kind, name_suggestions, needs_review, new_entries, still_suggested, suggestion, suggestions, with_entries}
 use Rattle.mailmap_suggestions.specs.Written.{ContactHoldsNoZero, FitsLine, HoldsNoZero, IsGood, IsUncut, IsWritableSuggestion, groups_text, has_marks, kind_text, selected_text, text_with, unmarked_entries}
 use Rattle.mailmap_suggestions.proofs.Appended.{IsCareful, OfForms, answers_all, each_entry}
@@ -32,8 +30,10 @@ use Rattle.mailmap_suggestions.proofs.Fed.{entries_fed, fed, one_part}
 use Rattle.mailmap_suggestions.proofs.GitTrim.{name_trimmed}
 use Rattle.mailmap_suggestions.proofs.Proper.{Each}
 use Rattle.mailmap_suggestions.proofs.Selected.{all_unmarked, emails_unmarked, left_entries, name_kinds, new_after, reviewed, unmarked_are}
-use Rattle.mailmap_suggestions.proofs.Texts.{body_line, count_held, held, shortened_held}
-use Rattle.mailmap_suggestions.proofs.United.{proper_comes}
+use Rattle.mailmap_suggestions.proofs.Held.{held}
+use Rattle.mailmap_suggestions.proofs.Texts.{body_line, count_held, head_held}
+use Rattle.mailmap_suggestions.proofs.United.{cut_before, never, proper_comes, writable_named}
+use Rattle.shown_text.specs.Shown.{shown}
 use Rattle.mailmap_suggestions.proofs.Writable.{all_fit, each_group, emails_left, entries_are, groups_are, left_fits, login_fits, name_fits, name_of_one, unless_cut}
 
 -- ==== what git reads from a text, whatever comes after it
@@ -112,56 +112,28 @@ note_says t one le = line_says (35 ∷ t) [] one (note_entries t le)
 
 -- ---- their lengths
 
-front_bound : (s : Text) → front_len s ≤ 256
-front_bound s = by (crosses 1 s) (crosses 2 s) (crosses 3 s)
+front_bound : (limit : ℕ) (s : Text) → front_len limit s ≤ limit
+front_bound limit s = by (crosses 1 limit s) (crosses 2 limit s) (crosses 3 limit s)
   where
-    by : (a b c : Bool) → (if a then 255 else if b then 254 else if c then 253 else 256) ≤ 256
+    by : (a b c : Bool) → (if a then limit - 1 else if b then limit - 2 else if c then limit - 3 else limit) ≤ limit
     by true b c = omega arith
     by false true c = omega arith
     by false false true = omega arith
     by false false false = omega arith
 
-short_length : (s : Text) → length (shortened s) ≤ 258
-unfolding shortened
-short_length s = by (nat_lt 256 (length s)) refl
+short_length : (limit : ℕ) (s : Text) → length (shortened_to limit s) ≤ limit + 2
+unfolding shortened_to
+short_length limit s = by (nat_lt limit (length s)) refl
   where
-    by : (b : Bool) → nat_lt 256 (length s) ≡ b → length (if b then take (front_len s) s ++ codes ".." else s) ≤ 258
-    by true is = omega (arith, length-append (take (front_len s) s) (codes ".."), length-take (front_len s) s, front_bound s)
-    by false is = omega (arith, ltb-false 256 (length s) is)
+    by : (b : Bool) → nat_lt limit (length s) ≡ b → length (if b then take (front_len limit s) s ++ codes ".." else s) ≤ limit + 2
+    by true is = omega (arith, length-append (take (front_len limit s) s) (codes ".."), length-take (front_len limit s) s, front_bound limit s)
+    by false is = omega (arith, ltb-false limit (length s) is)
 
-contact_length : (name email : Text) → length (contact_line name email) ≤ length name + length email + 3
-contact_length [] email = omega (arith, length-append email (62 ∷ []))
-contact_length (b ∷ name) email = omega (arith, length-append ((b ∷ name) ++ 32 ∷ 60 ∷ email) (62 ∷ []), length-append (b ∷ name) (32 ∷ 60 ∷ email))
-
-digits_length : (k n : ℕ) (acc : Text) → length (digits_onto k 10 false n acc) ≤ k + length acc
-digits_length zero n acc = omega arith
-digits_length (suc k) n acc = grind (arith, digits_length k)
-
-decimal_length : (n : ℕ) → length (decimal n) ≤ 64
-unfolding digits
-decimal_length n = omega (arith, digits_length 64 n [])
-
-git_length : (is_gits : Bool) → length (by_git is_gits) ≤ 7
-git_length true = omega arith
-git_length false = omega arith
+comment_says : (t : Text) → HoldsNo 10 (comment t) → GitSays (comment t ++ 10 ∷ []) []
+comment_says t one = note_says (32 ∷ shortened_to 1000 (shown t)) one (omega (arith, short_length 1000 (shown t)))
 
 count_says : (is_gits : Bool) (t : Tally) → IsWritableContact t.contact → GitSays (count_line is_gits t.seen.count t.contact ++ 10 ∷ []) []
-count_says is_gits t w =
-    let number = decimal t.seen.count in
-    let name = shortened t.contact.name in
-    let email = shortened t.contact.email in
-    let shown = contact_line name email in
-    note_says (32 ∷ ((number ++ 32 ∷ shown) ++ by_git is_gits)) (count_held is_gits t w)
-    (omega (
-      arith,
-      length-append (number ++ 32 ∷ shown) (by_git is_gits),
-      length-append number (32 ∷ shown),
-      decimal_length t.seen.count,
-      contact_length name email,
-      short_length t.contact.name,
-      short_length t.contact.email,
-      git_length is_gits,
-    ))
+count_says is_gits t w = comment_says ((decimal t.seen.count ++ 32 ∷ short_contact t.contact.name t.contact.email) ++ by_git is_gits) (count_held is_gits t w)
 
 cut_says : (is_cut : Bool) → GitSays (cut_lines is_cut) []
 cut_says true = line_says (codes "# too long for git") [] (held (codes "# too long for git") refl) (note_entries (codes " too long for git") (omega arith))
@@ -169,14 +141,11 @@ cut_says false = nothing_says
 
 kind_says : (k : Kind) → HoldsNo 10 (kind_text k) → GitSays (kind_lines k) []
 kind_says by_email one = nothing_says
-kind_says (by_shared_email email) one = line_says (codes "# several people may share " ++ shortened email) []
-    (all_append (λ x. x ≢ 10) (codes "# several people may share ") (shortened email) (held (codes "# several people may share ") refl) (shortened_held email one))
-    (note_entries (codes " several people may share " ++ shortened email) (omega (arith, short_length email)))
+kind_says (by_shared_email email) one = comment_says (codes "several people may share " ++ shortened email)
+    (head_held (codes "several people may share ") email (held (codes "several people may share ") refl) one)
 kind_says by_name one = nothing_says
 kind_says by_alike_names one = line_says (codes "# alike") [] (held (codes "# alike") refl) (note_entries (codes " alike") (omega arith))
-kind_says (by_login login) one = line_says (codes "# login " ++ shortened login) []
-    (all_append (λ x. x ≢ 10) (codes "# login ") (shortened login) (held (codes "# login ") refl) (shortened_held login one))
-    (note_entries (codes " login " ++ shortened login) (omega (arith, short_length login)))
+kind_says (by_login login) one = comment_says (codes "login " ++ shortened login) (head_held (codes "login ") login (held (codes "login ") refl) one)
 
 -- ==== the line of an entry
 
@@ -479,8 +448,9 @@ module _ (shared : List Text) (base h : List Mapping) (ts : List Tally) (free : 
   groups_read_by_git = subst (GitSays (groups_text seen p class (alike h) ts make)) (groups_are shared base h ts class p seen kind review one) groups_say
 
 module _ (shared : List Text) (c : GroupClasses) (p q : Text → Bool) (seen : List Text) (h : List Mapping) (ts : List Tally) (writable : AllByRecursion IsWritable h) (each_writable : Each IsWritableContact ts)
-    (free : AllByRecursion HoldsNoZero h) (each_free : Each ContactHoldsNoZero ts) (careful : IsCareful shared c.by_name (with_emails shared h ts) ts)
-    (ready : (k : Text) → q k ≡ true → NoneCut shared (email_class shared) h ts × IsCareful shared c.by_login (with_classes shared c.by_name (with_emails shared h ts) ts) ts) where
+    (free : AllByRecursion HoldsNoZero h) (each_free : Each ContactHoldsNoZero ts) (careful : IsCareful shared c.by_name never (with_emails shared h ts) ts)
+    (unnamed : (d : Contact) → d ∈ contacts ts → (answer_to (with_emails shared h ts) d).name ≡ [] → c.by_name (answer_to (with_emails shared h ts) d) ≡ [])
+    (ready : (k : Text) → q k ≡ true → IsCareful shared c.by_login (cut_before shared h ts (writable_named h writable) c.by_name careful) (with_classes shared c.by_name (with_emails shared h ts) ts) ts) where
   abbrev m : List Mapping
   m = with_emails shared h ts
 
@@ -518,6 +488,6 @@ module _ (shared : List Text) (c : GroupClasses) (p q : Text → Bool) (seen : L
       whole_say (a ++ b ++ d) (es ++ new_entries seen names ++ new_entries seen logins)
       (both_say (a ++ b) d (es ++ new_entries seen names) (new_entries seen logins)
       (both_say a b es (new_entries seen names) emails_say
-      (groups_read_by_git shared m m ts m_free each_free c.by_name p seen (name_kind (alike m)) (name_kinds (alike m)) (name_of_one (alike m)) (name_fits shared c p q seen h ts writable each_writable careful ready)))
-      (groups_read_by_git shared m f ts f_free each_free c.by_login q seen (login_kind shared (alike f) ts) (λ g. refl) (λ g. refl) (login_fits shared c p q seen h ts writable each_writable careful ready)))
+      (groups_read_by_git shared m m ts m_free each_free c.by_name p seen (name_kind (alike m)) (name_kinds (alike m)) (name_of_one (alike m)) (name_fits shared c p q seen h ts writable each_writable careful unnamed ready)))
+      (groups_read_by_git shared m f ts f_free each_free c.by_login q seen (login_kind shared (alike f) ts) (λ g. refl) (λ g. refl) (login_fits shared c p q seen h ts writable each_writable careful unnamed ready)))
       ∙ new_after seen es names logins

@@ -21,6 +21,7 @@ mod LoginLinks
 mod NameLinks
 mod Grouping
 mod Holding
+mod Numbered
 pub mod Staged
 mod Suggested
 pub mod United
@@ -28,11 +29,16 @@ pub mod After
 pub mod Fed
 mod GitTrim
 pub mod Careful
+mod Held
+mod Shortening
 pub mod Texts
 pub mod Selected
 pub mod Writable
 mod GitText
 mod Needed
+mod NewNames
 mod NoZero
+mod Overlapping
 mod Kept
 mod Together
+mod Selections

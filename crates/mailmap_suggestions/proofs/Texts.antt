@@ -1,9 +1,7 @@
 -- Suggested entries can be written, and are read from the text of suggestions.
-use Rattle.std.proofs.Common.{◌≡◌, ◌+◌, ◌==◌, ℕ, None, option_to_list, List, [], ◌∷◌, ◌++◌, refl, sym, ◌∙◌, rules, ◌≢◌, Bool, true, false, true≢false, ap, append-nil, bytes_eq, IfSome, if◌then◌else◌, not, subst, ⊎_elim, Option, Some, Ok, zero, suc, decimal, append_assoc, arith, codes, take, length, nat_lt}
-use Rattle.std.specs.List.{AllByRecursion, flat_map, list_all}
-use Rattle.std.specs.Fmt.{digits, digits_onto}
+use Rattle.std.proofs.Common.{◌≡◌, ◌+◌, ℕ, None, option_to_list, List, [], ◌∷◌, ◌++◌, refl, sym, ◌∙◌, rules, ◌≢◌, Bool, true, false, ap, append-nil, bytes_eq, IfSome, if◌then◌else◌, subst, ⊎_elim, Option, Some, Ok, decimal, append_assoc, arith, codes}
+use Rattle.std.specs.List.{AllByRecursion, flat_map}
 use Rattle.std.specs.Result.{result_ok}
-use Rattle.std.proofs.lemmas.Bool.{and_parts}
 use Rattle.contact_counter.specs.declared.occurrences.Occurrences.{Occurrences}
 use Rattle.mailmap_entries.specs.Entries.{Mapping}
 use Rattle.mailmap_entries.specs.Folding.{Text}
@@ -21,12 +19,14 @@ use Rattle.mailmap_snapshot.proofs.WritableLines.{ContactFits, contact_fits}
 use Rattle.mailmap_snapshot.proofs.WrittenLine.{body, reading-canonical_line, strict_reading-canonical_line, one_line}
 use Rattle.mailmap_suggestions.specs.Forms.{Histories, git_answer_to, name_unless_empty}
 use Rattle.mailmap_suggestions.specs.GroupEntries.{IsWritableContact}
-use Rattle.mailmap_suggestions.specs.Shortened.{front_len, short_contact, shortened}
-use Rattle.mailmap_suggestions.specs.SuggestedText.{by_git, comments, count_line, count_lines, cut_lines, entry_line, entry_lines, kind_lines, mark, suggestion_text}
+use Rattle.mailmap_suggestions.specs.Shortened.{short_contact, shortened}
+use Rattle.mailmap_suggestions.specs.SuggestedText.{by_git, comment, comments, count_line, count_lines, cut_lines, entry_line, entry_lines, kind_lines, mark, suggestion_text}
 use Rattle.mailmap_suggestions.specs.Suggestions.{Kind, Suggestion, by_alike_names, by_email, by_login, by_name, by_shared_email}
 use Rattle.mailmap_suggestions.specs.Written.{FitsLine, IsWritableSuggestion, kind_text, text_with, unmarked_entries}
+use Rattle.mailmap_suggestions.proofs.Held.{decimal_line, held, shortened_held, shown_held}
 use Rattle.mailmap_suggestions.proofs.Appended.{empty_or, folded_empty, own_fields, accepted_all, Gives, OfForms, answers_all}
 use Rattle.mailmap_suggestions.proofs.Proper.{Each}
+use Rattle.shown_text.specs.Shown.{shown}
 
 -- ==== suggested entries can be written, if the mappings and the contacts can
 
@@ -140,33 +140,6 @@ says_whole s es says =
 
 -- ---- what is in a line
 
-digits_line : (k n : ℕ) (acc : Text) → HoldsNo 10 acc → HoldsNo 10 (digits_onto k 10 false n acc)
-digits_line zero n acc one = one
-digits_line (suc k) n acc one = search (rules, digits_line k)
-
-decimal_line : (n : ℕ) → HoldsNo 10 (decimal n)
-unfolding digits
-decimal_line n = digits_line 64 n [] tt
-
--- a text that is written out
-pub held : (s : Text) → list_all (λ x. not (x == 10)) s ≡ true → HoldsNo 10 s
-held [] is = tt
-held (x ∷ s) is =
-    let parts = and_parts (not (x == 10)) (list_all (λ x. not (x == 10)) s) is in
-    ((λ e. true≢false (sym parts.0 ∙ ap (λ y. not (y == 10)) e)), held s parts.1)
-
-pub take_held : (n : ℕ) (s : Text) → HoldsNo 10 s → HoldsNo 10 (take n s)
-take_held zero s one = tt
-take_held (suc n) [] one = tt
-take_held (suc n) (x ∷ s) one = (one.0, take_held n s one.1)
-
-pub shortened_held : (s : Text) → HoldsNo 10 s → HoldsNo 10 (shortened s)
-unfolding shortened
-shortened_held s one = elim (nat_lt 256 (length s)) as (λ b. HoldsNo 10 (if b then take (front_len s) s ++ codes ".." else s)) [
-  | true ↦ all_append (λ x. x ≢ 10) (take (front_len s) s) (codes "..") (take_held (front_len s) s one) (held (codes "..") refl)
-  | false ↦ one
-]
-
 contact_held : (name email : Text) → HoldsNo 10 name → HoldsNo 10 email → HoldsNo 10 (contact_line name email)
 contact_held [] email first second = search (rules, all_append)
 contact_held (b ∷ name) email first second = search (rules, all_append)
@@ -175,14 +148,27 @@ pub name_held : (c : Contact) → IsWritableContact c → HoldsNo 10 c.name
 name_held c w = ⊎_elim (λ none. subst (HoldsNo 10) (sym none) tt) (λ some. (w.name some).one_line) (empty_or c.name)
 
 short_held : (c : Contact) → IsWritableContact c → HoldsNo 10 (short_contact c.name c.email)
-short_held c w = contact_held (shortened c.name) (shortened c.email) (shortened_held c.name (name_held c w)) (shortened_held c.email w.email.one_line)
+short_held c w = contact_held (shortened c.name) (shortened c.email) (shortened_held 256 c.name (name_held c w)) (shortened_held 256 c.email w.email.one_line)
 
 git_line : (is_gits : Bool) → HoldsNo 10 (by_git is_gits)
 git_line false = tt
 git_line true = held (codes " by git") refl
 
+-- a comment holds what its text does
+pub comment_held : (s : Text) → HoldsNo 10 s → HoldsNo 10 (comment s)
+comment_held s one = ((λ e. cc), ((λ e. cc), shortened_held 1000 (shown s) (shown_held s one)))
+
 pub count_held : (is_gits : Bool) (t : Tally) → IsWritableContact t.contact → HoldsNo 10 (count_line is_gits t.seen.count t.contact)
-count_held is_gits t w = search (rules, all_append, decimal_line, short_held, git_line)
+count_held is_gits t w =
+    let number = decimal t.seen.count in
+    let contact = short_contact t.contact.name t.contact.email in
+    let P : ℕ → Type 0 = λ x. x ≢ 10 in
+    comment_held ((number ++ 32 ∷ contact) ++ by_git is_gits) (all_append P (number ++ 32 ∷ contact) (by_git is_gits)
+    (all_append P number (32 ∷ contact) (decimal_line t.seen.count) ((λ e. cc), short_held t.contact w)) (git_line is_gits))
+
+-- an email or a login after some words
+pub head_held : (head s : Text) → HoldsNo 10 head → HoldsNo 10 s → HoldsNo 10 (comment (head ++ shortened s))
+head_held head s one also = comment_held (head ++ shortened s) (all_append (λ x. x ≢ 10) head (shortened s) one (shortened_held 256 s also))
 
 count_said : (is_gits : Bool) (t : Tally) → IsWritableContact t.contact → Says (count_line is_gits t.seen.count t.contact ++ 10 ∷ []) []
 count_said is_gits t w = line_said (count_line is_gits t.seen.count t.contact) [] (count_held is_gits t w) (λ n. refl)
@@ -193,12 +179,12 @@ cut_said false = nothing_said
 
 kind_said : (k : Kind) → HoldsNo 10 (kind_text k) → Says (kind_lines k) []
 kind_said by_email one = nothing_said
-kind_said (by_shared_email email) one = line_said (codes "# several people may share " ++ shortened email) []
-    (all_append (λ x. x ≢ 10) (codes "# several people may share ") (shortened email) (held (codes "# several people may share ") refl) (shortened_held email one)) (λ n. refl)
+kind_said (by_shared_email email) one = line_said (comment (codes "several people may share " ++ shortened email)) []
+    (head_held (codes "several people may share ") email (held (codes "several people may share ") refl) one) (λ n. refl)
 kind_said by_name one = nothing_said
 kind_said by_alike_names one = line_said (codes "# alike") [] (held (codes "# alike") refl) (λ n. refl)
-kind_said (by_login login) one = line_said (codes "# login " ++ shortened login) []
-    (all_append (λ x. x ≢ 10) (codes "# login ") (shortened login) (held (codes "# login ") refl) (shortened_held login one)) (λ n. refl)
+kind_said (by_login login) one = line_said (comment (codes "login " ++ shortened login)) []
+    (head_held (codes "login ") login (held (codes "login ") refl) one) (λ n. refl)
 
 pub body_line : (e : Mapping) → IsWritable e → HoldsNo 10 (entry_line e)
 body_line e w = search (rules, one_line)

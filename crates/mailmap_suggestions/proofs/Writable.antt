@@ -14,7 +14,7 @@ use Rattle.mailmap_grammar.specs.Lines.{HoldsNo, is_comment, mappings_of}
 use Rattle.mailmap_names.specs.Logins.{has_plus_after, is_at, is_github, is_plus, local_part, login, without_number, without_tag}
 use Rattle.mailmap_suggestions.specs.Counted.{by_frequency, counted_answers, counted_git_answers, git_answered, other_git_answers, ranked}
 use Rattle.mailmap_suggestions.specs.Forms.{Histories, alike, git_answer_to, is_shared, long_form, name_unless_empty, named_form, needs_own_entry, short_form}
-use Rattle.mailmap_suggestions.specs.GroupEntries.{HasNoEmptyName, IsWritableContact, NoneCut, all_entries, are_alike, are_cut, classes, contacts, email_class, email_entries, group_entries, groups, members, only, proper_answer, wanted_entries, with_classes, with_emails}
+use Rattle.mailmap_suggestions.specs.GroupEntries.{HasNoEmptyName, IsWritableContact, all_entries, are_alike, are_cut, classes, contacts, email_class, email_entries, group_entries, groups, members, only, proper_answer, wanted_entries, with_classes, with_emails}
 use Rattle.mailmap_suggestions.specs.SuggestedText.{entry_line, suggestions_text}
 use Rattle.mailmap_suggestions.specs.Links.{another_has, answered_by, answers, email_keys, emails_of, linking_logins, name_keys, participants}
 use Rattle.mailmap_suggestions.specs.Suggestions.{GroupClasses, Kind, Suggestion, by_alike_names, by_email, by_name, by_shared_email, email_key, email_kind, email_suggestions, entries_for, first_answer, first_or_empty, has_any, have_one_name, is_of_several, is_remembered, login_kind, login_suggestions, name_kind, name_suggestions, needs_review, new_entries, still_suggested, suggestion, suggestions, unless_empty, with_entries}
@@ -23,8 +23,9 @@ use Rattle.mailmap_suggestions.proofs.Appended.{IsCareful, IsWanting, OfForms, O
 use Rattle.mailmap_suggestions.proofs.Distinct.{◌∈◌, all_joined, all_of, at, each, somes}
 use Rattle.mailmap_suggestions.proofs.Proper.{Each}
 use Rattle.mailmap_suggestions.proofs.Selected.{all_unmarked, class_is, email_kinds, left_entries, new_after, new_joined, email_only, emails_unmarked, passing_are, first_has, have_email, name_kinds, reviewed, suggested, suggested_is, suggested_read}
-use Rattle.mailmap_suggestions.proofs.Texts.{IsGiven, Says, all_given, answers_given, both_said, each_said, forms_given, name_held, says_whole, take_held, texts_said, unnamed_own}
-use Rattle.mailmap_suggestions.proofs.United.{active_some, careful_spell, counted_each, each_counted, either_same, email_spell, flat_same, from_group, group, in_block, lines, next_spell, next_wants, only_same, proper_comes, proper_wanting, text, these, unchanged, wanted, writable_named}
+use Rattle.mailmap_suggestions.proofs.Texts.{IsGiven, Says, all_given, answers_given, both_said, each_said, forms_given, name_held, says_whole, texts_said, unnamed_own}
+use Rattle.mailmap_suggestions.proofs.Held.{take_held}
+use Rattle.mailmap_suggestions.proofs.United.{active_some, careful_spell, counted_each, cut_before, each_counted, either_same, email_spell, flat_same, from_group, group, in_block, lines, never, next_spell, next_wants, only_same, proper_comes, proper_wanting, shared_uncut, text, these, unchanged, wanted, writable_named}
 
 each_ranked : (P : Contact → Type 0) (n : ℕ) (ts : List Tally) → Each P ts → Each P (ranked n ts)
 each_ranked P n [] all = tt
@@ -439,8 +440,9 @@ pub name_of_one : (h : Histories) (g : List Tally) → is_of_several (name_kind 
 name_of_one h g = elim (have_one_name h g) as (λ b. is_of_several (if b then by_name else by_alike_names) ≡ false) [ true ↦ refl | false ↦ refl ]
 
 module _ (shared : List Text) (c : GroupClasses) (p q : Text → Bool) (seen : List Text) (h : List Mapping) (ts : List Tally) (writable : AllByRecursion IsWritable h) (each_writable : Each IsWritableContact ts)
-    (careful : IsCareful shared c.by_name (with_emails shared h ts) ts)
-    (ready : (k : Text) → q k ≡ true → NoneCut shared (email_class shared) h ts × IsCareful shared c.by_login (with_classes shared c.by_name (with_emails shared h ts) ts) ts) where
+    (careful : IsCareful shared c.by_name never (with_emails shared h ts) ts)
+    (unnamed : (d : Contact) → d ∈ contacts ts → (answer_to (with_emails shared h ts) d).name ≡ [] → c.by_name (answer_to (with_emails shared h ts) d) ≡ [])
+    (ready : (k : Text) → q k ≡ true → IsCareful shared c.by_login (cut_before shared h ts (writable_named h writable) c.by_name careful) (with_classes shared c.by_name (with_emails shared h ts) ts) ts) where
   abbrev m : List Mapping
   m = with_emails shared h ts
 
@@ -461,23 +463,20 @@ module _ (shared : List Text) (c : GroupClasses) (p q : Text → Bool) (seen : L
       (λ d i some none. some (at _ (contacts ts) careful.emails d i none)) (λ d i some many. at _ (contacts ts) careful.names d i many some) (careful_spell shared m ts c.by_name careful) k some
 
   login_lines : (k : Text) → k ≢ [] → q k ≡ true → AllByRecursion IsGood (lines shared m f ts c.by_login k)
-  login_lines k some passes = lines_good shared m f m_writable f_given ts each_writable c.by_login (next_wants shared h ts named_h none_cut c.by_name careful c.by_login also (λ _. true))
-      (λ d i some none. some (at _ (contacts ts) also.emails d i none)) (λ d i some many. has_name d i some many (in_block shared h ts named_h none_cut c.by_name careful d) refl)
-      (next_spell shared h ts named_h none_cut c.by_name careful c.by_login also (λ _. true)) k some
+  login_lines k some passes = lines_good shared m f m_writable f_given ts each_writable c.by_login (next_wants shared h ts named_h c.by_name careful unnamed c.by_login)
+      (λ d i some none. some (at _ (contacts ts) also.emails d i none)) (λ d i some many. has_name d i some many (in_block shared h ts named_h c.by_name careful d) refl)
+      (next_spell shared h ts named_h c.by_name careful c.by_login also) k some
     where
       named_h : AllByRecursion HasNoEmptyName h
       named_h = writable_named h writable
 
-      none_cut : NoneCut shared (email_class shared) h ts
-      none_cut = (ready k passes).0
-
-      also : IsCareful shared c.by_login f ts
-      also = (ready k passes).1
+      also : IsCareful shared c.by_login (cut_before shared h ts named_h c.by_name careful) f ts
+      also = ready k passes
 
       -- at an email that several people share
-      has_name : (d : Contact) → d ∈ contacts ts → c.by_login (answer_to f d) ≢ [] → is_shared shared (answer_to m d).email ≡ true → (b : Bool) → in_block shared h ts named_h none_cut c.by_name careful d ≡ b → d.name ≢ []
+      has_name : (d : Contact) → d ∈ contacts ts → c.by_login (answer_to f d) ≢ [] → is_shared shared (answer_to m d).email ≡ true → (b : Bool) → in_block shared h ts named_h c.by_name careful d ≡ b → d.name ≢ []
       has_name d i some many true on = at _ (contacts ts) careful.names d i many (active_some shared m m ts c.by_name (c.by_name (answer_to m d)) on)
-      has_name d i some many false off = at _ (contacts ts) also.names d i (ap (λ (a : Contact). is_shared shared a.email) (unchanged shared h ts named_h none_cut c.by_name careful d i off) ∙ many) some
+      has_name d i some many false off = at _ (contacts ts) also.names d i (ap (λ (a : Contact). is_shared shared a.email) (unchanged shared h ts named_h c.by_name careful d i (shared_uncut shared h ts named_h d i many) off) ∙ many) some
 
   abbrev make_name : List Tally → Suggestion
   make_name g = suggestion shared (alike m) (alike m) (name_kind (alike m) g) g

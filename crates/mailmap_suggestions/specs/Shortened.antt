@@ -4,18 +4,23 @@ use Rattle.bstr.specs.Utf8.{decoded}
 use Rattle.mailmap_entries.specs.Folding.{Text}
 use Rattle.mailmap_snapshot.specs.Contacts.{contact_line}
 
--- a character begins so many bytes before the end of the first 256, and goes beyond them
-unfoldable pub crosses : ℕ → Text → Bool
-crosses back text =
-    is_some (decoded (drop (256 - back) text)).char && nat_lt back (decoded (drop (256 - back) text)).size
+-- a character begins so many bytes before a limit, and goes beyond it
+unfoldable pub crosses : ℕ → ℕ → Text → Bool
+crosses back limit text =
+    is_some (decoded (drop (limit - back) text)).char && nat_lt back (decoded (drop (limit - back) text)).size
 
--- the first 256 bytes, or up to three fewer so that no character is cut
-abbrev pub front_len : Text → ℕ
-front_len text = if crosses 1 text then 255 else if crosses 2 text then 254 else if crosses 3 text then 253 else 256
+-- as many bytes as the limit says, or up to three fewer so that no character is cut
+abbrev pub front_len : ℕ → Text → ℕ
+front_len limit text = if crosses 1 limit text then limit - 1 else if crosses 2 limit text then limit - 2
+    else if crosses 3 limit text then limit - 3 else limit
 
--- a text of more than 256 bytes is shown as its front and two dots, a shorter one whole
-unfoldable pub shortened : Text → Text
-shortened text = if nat_lt 256 (length text) then take (front_len text) text ++ codes ".." else text
+-- a text that is longer than the limit is shown as its front and two dots, a shorter one whole
+unfoldable pub shortened_to : ℕ → Text → Text
+shortened_to limit text =
+    if nat_lt limit (length text) then take (front_len limit text) text ++ codes ".." else text
+
+abbrev pub shortened : Text → Text
+shortened text = shortened_to 256 text
 
 -- a contact with its texts shortened
 abbrev pub short_contact : Text → Text → Text

@@ -9,9 +9,10 @@ use Rattle.mailmap_entries.specs.Folding.{Text}
 use Rattle.mailmap_entries.specs.Semantics.{last}
 pub use Rattle.mailmap_suggestions.specs.EntryLines.{entry_line, fields_text}
 use Rattle.mailmap_suggestions.specs.Forms.{Histories}
-use Rattle.mailmap_suggestions.specs.Shortened.{short_contact, shortened}
+use Rattle.mailmap_suggestions.specs.Shortened.{short_contact, shortened, shortened_to}
 use Rattle.mailmap_suggestions.specs.Suggestions.{GroupClasses, Kind, Suggestion, by_alike_names, by_email, by_login}
 use Rattle.mailmap_suggestions.specs.Suggestions.{by_name, by_shared_email, lines_in, needs_review, suggestions}
+use Rattle.shown_text.specs.Shown.{shown}
 
 -- ---- lines, without their line feeds
 
@@ -22,9 +23,13 @@ mark needs_review = if needs_review then codes "#?" else []
 abbrev pub by_git : Bool → Text
 by_git is_gits = if is_gits then codes " by git" else []
 
+-- A comment with escapes. git would read what comes after 1,023 bytes as a line of its own, so a long one is cut.
+abbrev pub comment : Text → Text
+comment text = codes "# " ++ shortened_to 1000 (shown text)
+
 -- how often an answer comes
 abbrev pub count_line : Bool → ℕ → Contact → Text
-count_line is_gits count c = codes "# " ++ decimal count ++ 32 ∷ short_contact c.name c.email ++ by_git is_gits
+count_line is_gits count c = comment (decimal count ++ 32 ∷ short_contact c.name c.email ++ by_git is_gits)
 
 -- ---- what comes first, with line feeds
 
@@ -33,10 +38,10 @@ cut_lines is_cut = if is_cut then codes "# too long for git" ++ 10 ∷ [] else [
 
 abbrev pub kind_lines : Kind → Text
 kind_lines by_email = []
-kind_lines (by_shared_email email) = codes "# several people may share " ++ shortened email ++ 10 ∷ []
+kind_lines (by_shared_email email) = comment (codes "several people may share " ++ shortened email) ++ 10 ∷ []
 kind_lines by_name = []
 kind_lines by_alike_names = codes "# alike" ++ 10 ∷ []
-kind_lines (by_login login) = codes "# login " ++ shortened login ++ 10 ∷ []
+kind_lines (by_login login) = comment (codes "login " ++ shortened login) ++ 10 ∷ []
 
 -- ---- the text
 

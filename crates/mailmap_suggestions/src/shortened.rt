@@ -2,6 +2,7 @@
 ghost use Rattle.std.specs.Prelude.{◌≡◌, ◌++◌, ◌≤◌, IfOk, OnOk, length};
 ghost use Rattle.std.specs.Cow.{cow_slice_items};
 ghost use Rattle.mailmap_suggestions.specs.Shortened.{crosses, front_len, short_contact, shortened};
+ghost use Rattle.mailmap_suggestions.specs.Shortened.{shortened_to};
 
 use bstr::decode_utf8;
 use mailmap_snapshot::check::push_contact;
@@ -22,34 +23,50 @@ pub fn shortened<'a>(alloc: Global, text: &'a [u8]) -> Result<CowSlice<'a, u8>, 
     if text.len() <= LIMIT {
         return Ok(CowSlice::Borrowed(text));
     }
-    let mut short = Vec::from_slice(alloc, &text[..front_len(text)])?;
-    short.extend_from_slice(b"..")?;
+    let mut short = Vec::new(alloc);
+    push_shortened_to(LIMIT, &mut short, text)?;
     Ok(CowSlice::Owned(short))
 }
 
-fn front_len(text: &[u8]) -> usize
-    requires { 256 ≤ length text.now }
-    ensures front { result ≡ front_len text.now }
-    ensures within { result ≤ 256 }
+/// Appends a text that has at most as many bytes as the limit says, or the front of a longer one and `..`.
+pub(crate) fn push_shortened_to(
+    limit: usize,
+    text: &mut Vec<u8>,
+    long: &[u8],
+) -> Result<(), AllocError>
+    requires { 3 ≤ limit }
+    ensures { OnOk result (text.new.items ≡ text.old.items ++ shortened_to limit long.now) }
 {
-    if crosses(1, text) {
-        LIMIT - 1
-    } else if crosses(2, text) {
-        LIMIT - 2
-    } else if crosses(3, text) {
-        LIMIT - 3
+    if long.len() <= limit {
+        return text.extend_from_slice(long);
+    }
+    text.extend_from_slice(&long[..front_len(limit, long)])?;
+    text.extend_from_slice(b"..")
+}
+
+fn front_len(limit: usize, text: &[u8]) -> usize
+    requires { (3 ≤ limit) × (limit ≤ length text.now) }
+    ensures front { result ≡ front_len limit text.now }
+    ensures within { result ≤ limit }
+{
+    if crosses(1, limit, text) {
+        limit - 1
+    } else if crosses(2, limit, text) {
+        limit - 2
+    } else if crosses(3, limit, text) {
+        limit - 3
     } else {
-        LIMIT
+        limit
     }
 }
 
 // Whether a character begins `back` bytes before the limit and goes beyond it.
 #[tactic(auto, unfolding(crate::specs::Shortened::crosses))]
-fn crosses(back: usize, text: &[u8]) -> bool
-    requires { (back ≤ 256) × (256 ≤ length text.now) }
-    ensures { result ≡ crosses back text.now }
+fn crosses(back: usize, limit: usize, text: &[u8]) -> bool
+    requires { (back ≤ limit) × (limit ≤ length text.now) }
+    ensures { result ≡ crosses back limit text.now }
 {
-    let (char, size) = decode_utf8(&text[LIMIT - back..]);
+    let (char, size) = decode_utf8(&text[limit - back..]);
     char.is_some() && back < size
 }
 
@@ -57,8 +74,7 @@ fn crosses(back: usize, text: &[u8]) -> bool
 pub fn push_shortened(text: &mut Vec<u8>, long: &[u8]) -> Result<(), AllocError>
     ensures { OnOk result (text.new.items ≡ text.old.items ++ shortened long.now) }
 {
-    let short = shortened(*text.allocator(), long)?;
-    text.extend_from_slice(&short)
+    push_shortened_to(LIMIT, text, long)
 }
 
 /// Appends a contact with its texts shortened.

@@ -5,22 +5,24 @@ ghost use Rattle.mailmap_contacts.specs.Answers.{tally_of};
 ghost use Rattle.mailmap_entries.specs.Entries.{mapping_of};
 ghost use Rattle.mailmap_entries.specs.Semantics.{last};
 ghost use Rattle.mailmap_grammar.specs.Lines.{is_comment};
-ghost use Rattle.mailmap_suggestions.specs.SuggestedText.{comments, count_line, count_lines, cut_lines, entry_line};
-ghost use Rattle.mailmap_suggestions.specs.SuggestedText.{entry_lines};
+ghost use Rattle.mailmap_suggestions.specs.SuggestedText.{comment, comments, count_line, count_lines, cut_lines};
+ghost use Rattle.mailmap_suggestions.specs.SuggestedText.{entry_line, entry_lines};
 ghost use Rattle.mailmap_suggestions.specs.SuggestedText.{feed_after};
 ghost use Rattle.mailmap_suggestions.specs.SuggestedText.{feed_unless, fields_text, kind_lines, mark, suggestion_text};
 ghost use Rattle.mailmap_suggestions.specs.EntryLines.{is_cut_by_git};
-ghost use Rattle.mailmap_suggestions.specs.Shortened.{shortened};
+ghost use Rattle.mailmap_suggestions.specs.Shortened.{shortened, shortened_to};
+ghost use Rattle.shown_text.specs.Shown.{shown};
 ghost use Rattle.mailmap_suggestions.specs.Suggestions.{needs_review};
 ghost use Rattle.mailmap_suggestions.specs.Views.{kind_of, suggestion_of};
 
 use crate::kinds::Kind;
-use crate::shortened::{push_short_contact, push_shortened};
+use crate::shortened::{push_short_contact, push_shortened, push_shortened_to};
 use crate::suggestions::Suggestion;
 use itoa::Buffer;
 use mailmap_contacts::answers::Tally;
 use mailmap_entries::Entry;
 use mailmap_grammar::writing::{len_with_line, push_email, push_name};
+use shown_text::shown::{may_need_escapes, push_shown};
 use std::alloc::AllocError;
 
 /// The line feed that has to come before the text of suggestions, if there are any: none if the last mailmap is empty
@@ -35,7 +37,7 @@ pub fn feed_after(buffers: &[&[u8]]) -> &'static [u8]
 }
 
 /// Appends the lines of a suggestion: what its answers have in common, how often each comes, the entries, and an empty
-/// line.
+/// line. Comments are escaped by [`push_shown`].
 ///
 /// ```text
 /// # alike
@@ -93,21 +95,46 @@ fn push_kind(out: &mut Vec<u8>, kind: Kind<'_>) -> Result<(), AllocError>
     ensures { OnOk result (out.new.items ≡ out.old.items ++ kind_lines (kind_of kind.entry)) }
 {
     match kind {
-        Kind::SharedEmail(email) => push_head(out, b"# several people may share ", email),
+        Kind::SharedEmail(email) => push_head(out, b"several people may share ", email),
         Kind::Alike => out.extend_from_slice(b"# alike\n"),
-        Kind::Login(login) => push_head(out, b"# login ", login),
+        Kind::Login(login) => push_head(out, b"login ", login),
         Kind::Email | Kind::Name => Ok(()),
     }
 }
 
 fn push_head(out: &mut Vec<u8>, head: &[u8], text: &[u8]) -> Result<(), AllocError>
-    ensures { OnOk result (out.new.items ≡ out.old.items ++ (head.now ++ shortened text.now ++ 10 ∷ [])) }
+    ensures { OnOk result (out.new.items ≡ out.old.items ++ (comment (head.now ++ shortened text.now) ++ 10 ∷ [])) }
 {
-    out.extend_from_slice(head)?;
-    push_shortened(out, text)?;
+    let mut said = Vec::from_slice(*out.allocator(), head)?;
+    push_shortened(&mut said, text)?;
+    push_comment(out, said.as_slice())
+}
+
+// Appends a comment with escapes, and its line feed.
+fn push_comment(out: &mut Vec<u8>, text: &[u8]) -> Result<(), AllocError>
+    ensures { OnOk result (out.new.items ≡ out.old.items ++ (comment text.now ++ 10 ∷ [])) }
+{
+    out.extend_from_slice(b"# ")?;
+    push_comment_text(out, text)?;
     out.push(b'\n')?;
     Ok(())
 }
+
+#[tactic(auto, using(shown_text::proofs::Escapes::plain))]
+fn push_comment_text(out: &mut Vec<u8>, text: &[u8]) -> Result<(), AllocError>
+    ensures { OnOk result (out.new.items ≡ out.old.items ++ shortened_to 1000 (shown text.now)) }
+{
+    if !may_need_escapes(text) {
+        return push_shortened_to(LONGEST_COMMENT, out, text);
+    }
+    let mut shown = Vec::new(*out.allocator());
+    push_shown(&mut shown, text)?;
+    push_shortened_to(LONGEST_COMMENT, out, shown.as_slice())
+}
+
+// A longer comment is cut, since git would read what comes after 1,023 bytes as a line of its own. Only escapes can make
+// one that long.
+const LONGEST_COMMENT: usize = 1000;
 
 fn push_counts(out: &mut Vec<u8>, answers: &[Tally<'_>], are_gits: bool) -> Result<(), AllocError>
     ensures { OnOk result (out.new.items ≡ out.old.items ++ count_lines are_gits (map tally_of answers.now)) }
@@ -210,7 +237,7 @@ fn push_fields(out: &mut Vec<u8>, entry: &Entry<'_>) -> Result<(), AllocError>
     push_email(out, entry.old_email())
 }
 
-/// Appends the comment that says how often an answer comes, with its line feed.
+/// Appends the comment that says how often an answer comes, with its line feed. It is escaped by [`push_shown`].
 ///
 /// ```text
 /// # 2 Jane Doe <jane@x>
@@ -227,13 +254,11 @@ pub fn push_count(
         ++ count_line is_gits count (record { name = name.now; email = email.now }) ++ 10 ∷ []) }
 {
     let mut digits = Buffer::new();
-    out.extend_from_slice(b"# ")?;
-    out.extend_from_slice(digits.format(count).as_bytes())?;
-    out.push(b' ')?;
-    push_short_contact(out, name, email)?;
+    let mut said = Vec::from_slice(*out.allocator(), digits.format(count).as_bytes())?;
+    said.push(b' ')?;
+    push_short_contact(&mut said, name, email)?;
     if is_gits {
-        out.extend_from_slice(b" by git")?;
+        said.extend_from_slice(b" by git")?;
     }
-    out.push(b'\n')?;
-    Ok(())
+    push_comment(out, said.as_slice())
 }

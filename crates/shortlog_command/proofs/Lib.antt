@@ -1,4 +1,5 @@
 pub mod Compared
 pub mod Listing
 pub mod Ordered
+pub mod Parts
 pub mod Skipped

@@ -10,6 +10,7 @@ use Rattle.mailmap_snapshot.specs.Entries.{Mapping}
 use Rattle.mailmap_snapshot.specs.Folding.{Text, text_cmp}
 use Rattle.mailmap_snapshot.specs.Lines.{contact_in, mappings_of}
 use Rattle.contact_counter.specs.Contacts.{Contact, answer_to, contact_on}
+use Rattle.shown_text.specs.Shown.{shown}
 
 -- a text, and how often it occurs
 pub record Counted : Type 0 where
@@ -54,9 +55,9 @@ pub record IsCountedList (by_count : Bool) (answers : List Text) (listed : List 
 abbrev pub six_columns : ℕ → Text
 six_columns n = drop (length (decimal n)) (codes "      ") ++ decimal n
 
--- the count, a tab, the text, and a line feed
+-- the count, a tab, the text with escapes, and a line feed
 abbrev pub counted_text : Counted → Text
-counted_text c = six_columns c.count ++ 9 ∷ c.text ++ 10 ∷ []
+counted_text c = six_columns c.count ++ 9 ∷ shown c.text ++ 10 ∷ []
 
 -- the text has such a line for each distinct answer
 abbrev pub IsShortlog : Bool → List Text → Text → Type 0

@@ -8,6 +8,7 @@ ghost use Rattle.std.specs.Ordering.{as_partial_cmp, eq_by_cmp};
 ghost use Rattle.mailmap_snapshot.specs.Folding.{text_cmp};
 ghost use Rattle.contact_counter.proofs.Entries.{contact_total};
 ghost use Rattle.shortlog_command.specs.Answers.{answer_cmp, printed};
+ghost use Rattle.shown_text.specs.Shown.{shown};
 
 use std::cmp::Ordering;
 
@@ -24,8 +25,10 @@ pub struct Answer<'a> {
 
 impl<'a> Answer<'a> {
     // The parts of its text. As in git, a space precedes the email even if the name is empty.
-    fn parts(&self) -> [&'a [u8]; 4]
-        ensures { flat_map (λ p. p.now) result ≡ printed self.now }
+    #[tactic(auto, using(crate::proofs::Parts::shown_parts, crate::proofs::Parts::shown_alone))]
+    pub(crate) fn parts(&self) -> [&'a [u8]; 4]
+        ensures whole { flat_map (λ p. p.now) result ≡ printed self.now }
+        ensures shown { flat_map (λ p. shown p.now) result ≡ shown (printed self.now) }
     {
         match self.email {
             Some(email) => [self.name, b" <".as_slice(), email, b">".as_slice()],

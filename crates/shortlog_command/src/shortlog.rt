@@ -1,5 +1,6 @@
 //! A shortlog: one line for each distinct answer, with its count.
-ghost use Rattle.std.specs.Prelude.{◌≡◌, ◌⊎◌, ◌++◌, IfErr, IfOk, IsOkUnless, OnErr, OnOk, codes, decimal, drop, map};
+ghost use Rattle.std.specs.Prelude.{◌≡◌, ◌⊎◌, ◌++◌, IfErr, IfOk, IsOkUnless, OnErr, OnOk, codes, decimal, drop, length};
+ghost use Rattle.std.specs.Prelude.{map, ◌∷◌, []};
 ghost use Rattle.std.specs.List.{flat_map};
 ghost use Rattle.std.specs.List.Sorted.{IsPermutation, IsSortedBy, IsStrictlySortedBy};
 ghost use Rattle.std.specs.Map.{keys_of};
@@ -9,6 +10,7 @@ ghost use Rattle.mailmap_snapshot.specs.Folding.{Text};
 ghost use Rattle.command_line.specs.Printing.{AppendsFront, IsUnderway, LeavesText, WritesText};
 ghost use Rattle.contact_counter.specs.Contacts.{answer_to, read_by, trimmed};
 ghost use Rattle.contact_counter.specs.Counts.{AreContactsOf, SameTallies};
+ghost use Rattle.shown_text.specs.Shown.{shown};
 ghost use Rattle.shortlog_command.specs.Answers.{AreListed, answer_cmp, answer_counted, answer_tally, printed, text_tally};
 ghost use Rattle.shortlog_command.specs.Shortlog.{IsShortlog, answer_text, answers_counted, count_order, counted_text, order};
 
@@ -22,6 +24,7 @@ use itoa::Buffer;
 use mailmap_grammar::contacts::trim;
 use mailmap_snapshot::Snapshot;
 use mailmap_snapshot::check::{resolved, snapshot_of};
+use shown_text::shown::{Shown, may_need_escapes};
 use std::alloc::{AllocError, Global};
 use std::cmp::Ordering;
 use std::collections::BTreeMap;
@@ -40,7 +43,8 @@ type Counted<'a> = (Answer<'a>, Occurrences);
 ///      1  joe
 /// ```
 ///
-/// with a tab after each count. Fails if memory runs out, or if a count exceeds its type, and then prints nothing.
+/// with a tab after each count. Names and emails are escaped as by [`push_shown`](shown_text::shown::push_shown). Fails
+/// if memory runs out, or if a count exceeds its type, and then prints nothing.
 ///
 /// No text is copied, so memory grows only with the mailmaps and the distinct contacts, even if many of them have one
 /// long email and the shortlog is much longer.
@@ -167,32 +171,73 @@ fn print_lines<W: Write>(
     let mut buffer = Buffer::new();
     for answer in answers {
         let digits = buffer.format(answer.1.count).as_bytes();
-        print_pieces(printer, &line_parts(answer, digits), output)?;
+        print_line(printer, answer, digits, output)?;
     }
     printer.flush(output)
 }
 
-// The parts of an answer's line: its count in six columns, a tab, its text, and a line feed.
-fn line_parts<'a>(answer: &Counted<'a>, digits: &'a [u8]) -> [&'a [u8]; 7]
+// Prints an answer's line: its count in six columns, a tab, its text with escapes, and a line feed.
+fn print_line<W: Write>(
+    printer: &mut Printer,
+    answer: &Counted<'_>,
+    digits: &[u8],
+    output: &mut W,
+) -> Result<(), Failure>
     requires { digits.now ≡ decimal answer.now.1.count }
-    ensures { flat_map (λ p. p.now) result ≡ counted_text (answer_counted answer.now) }
+    ensures ok { OnOk result (IsUnderway (printer.old ++ counted_text (answer_counted answer.now))
+        (W.contents output.old) (W.contents output.new) printer.new) }
+    ensures err { OnErr result (AppendsFront (W.contents output.old) (W.contents output.new)
+        (printer.old ++ counted_text (answer_counted answer.now))) }
+    ensures only { IsOkUnless result Failure.Output }
+{
+    print_pieces(printer, &count_parts(digits), output)?;
+    print_shown_pieces(printer, &answer.0.parts(), output)?;
+    printer.print(output, b"\n")
+}
+
+// The parts of a line before the text: a count in six columns, and a tab.
+fn count_parts<'a>(digits: &'a [u8]) -> [&'a [u8]; 3]
+    ensures { flat_map (λ p. p.now) result ≡ (drop (length digits.now) (codes "      ") ++ digits.now) ++ 9 ∷ [] }
 {
     let padding: &'a [u8] = padding(digits.len());
     let tab: &'a [u8] = b"\t".as_slice();
-    let none: &'a [u8] = b"".as_slice();
-    let name = answer.0.name;
-    match answer.0.email {
-        Some(email) => [
-            padding,
-            digits,
-            tab,
-            name,
-            b" <".as_slice(),
-            email,
-            b">\n".as_slice(),
-        ],
-        None => [padding, digits, tab, name, b"\n".as_slice(), none, none],
+    [padding, digits, tab]
+}
+
+fn print_shown_pieces<W: Write>(
+    printer: &mut Printer,
+    pieces: &[&[u8]],
+    output: &mut W,
+) -> Result<(), Failure>
+    ensures ok { OnOk result (IsUnderway (printer.old ++ flat_map (λ p. shown p.now) pieces.now)
+        (W.contents output.old) (W.contents output.new) printer.new) }
+    ensures err { OnErr result (AppendsFront (W.contents output.old) (W.contents output.new)
+        (printer.old ++ flat_map (λ p. shown p.now) pieces.now)) }
+    ensures only { IsOkUnless result Failure.Output }
+{
+    for piece in pieces {
+        print_shown(printer, piece, output)?;
     }
+    Ok(())
+}
+
+// Prints a text with escapes. It is printed part by part, since no memory may be needed once something is written.
+#[tactic(auto, using(shown_text::proofs::Escapes::plain))]
+fn print_shown<W: Write>(printer: &mut Printer, text: &[u8], output: &mut W) -> Result<(), Failure>
+    ensures ok { OnOk result (IsUnderway (printer.old ++ shown text.now)
+        (W.contents output.old) (W.contents output.new) printer.new) }
+    ensures err { OnErr result (AppendsFront (W.contents output.old) (W.contents output.new)
+        (printer.old ++ shown text.now)) }
+    ensures only { IsOkUnless result Failure.Output }
+{
+    if !may_need_escapes(text) {
+        return printer.print(output, text);
+    }
+    let mut left = Shown::new(text);
+    while let Some(part) = left.next_part() {
+        printer.print(output, part.as_slice())?;
+    }
+    Ok(())
 }
 
 // The padding of a count with so many digits, to six columns.

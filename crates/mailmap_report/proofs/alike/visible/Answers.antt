@@ -4,7 +4,7 @@ use Rattle.std.proofs.lemmas.Iterator.Consumers.{YieldsList-at, YieldsList-from_
 use Rattle.std.proofs.lemmas.Result.{IfOk-weaker}
 use Rattle.std.proofs.lemmas.Str.{IsUtf8-string_bytes, chars_from_encodes}
 use Rattle.std.specs.Prelude.{string_bytes}
-use Rattle.command_line.specs.Shown.{is_hidden}
+use Rattle.shown_text.specs.Shown.{is_hidden}
 use Rattle.mailmap_report.proofs.alike.visible.Goals as goal
 
 pub returns : goal.returns

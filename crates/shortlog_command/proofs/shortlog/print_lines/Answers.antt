@@ -12,14 +12,14 @@ loop-answer-init g c = underway-none
 
 pub loop-answer-preserved : goal.loop-answer-preserved
 loop-answer-preserved g c = item-printed counted_text c.loop-answer.printer
-    (ap (map answer_counted) (drop_more c.args.answers.now c.loop-answer.answer-index _ c.loop-answer-test.true)) c.loop-answer.invariant (rw c.line_parts.ensures at c.in_ok-print_pieces.ensures.ok)
+    (ap (map answer_counted) (drop_more c.args.answers.now c.loop-answer.answer-index _ c.loop-answer-test.true)) c.loop-answer.invariant c.in_ok-print_line.ensures.ok
 
-pub returns-in_err-print_pieces-clause-writes : goal.returns-in_err-print_pieces-clause-writes
-returns-in_err-print_pieces-clause-writes g c = record {
+pub returns-in_err-print_line-clause-writes : goal.returns-in_err-print_line-clause-writes
+returns-in_err-print_line-clause-writes g c = record {
   ok = search rules;
   err = on_err c.from_residual.result _ (item-broken counted_text _ c.loop-answer.printer
       (ap (map answer_counted) (drop_more c.args.answers.now c.loop-answer.answer-index _ c.loop-answer-test.true))
-      c.loop-answer.invariant (rw c.line_parts.ensures at c.in_err-print_pieces.ensures.err));
+      c.loop-answer.invariant c.in_err-print_line.ensures.err);
 }
 
 pub returns-clause-writes : goal.returns-clause-writes

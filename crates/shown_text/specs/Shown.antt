@@ -48,13 +48,17 @@ abbrev pub shown_code : ℕ → List ℕ
 shown_code code = if nat_lt code 65536 then 92 ∷ 117 ∷ last_four code
     else 92 ∷ 85 ∷ 48 ∷ 48 ∷ hex_byte (code / 65536 % 256) ++ last_four code
 
--- A character above 127 that controls, or that is hidden, is shown by its number. In ASCII, and outside of characters,
--- control bytes are escaped, and so is `[` after `##`, which GitHub takes for the beginning of a command.
+-- A character that controls or that is hidden is escaped, and so is `[` after `##`, which GitHub takes for the beginning
+-- of a command.
+abbrev pub shown_char : Bool → ℕ → List ℕ → List ℕ
+shown_char after_two char bytes = if nat_lt char 128
+    then (if is_control char || (after_two && char == 91) then escaped_byte char else bytes)
+    else (if is_control char || is_hidden char then shown_code char else bytes)
+
+-- Outside of characters, control bytes are escaped.
 abbrev pub shown_piece : Bool → Option ℕ → List ℕ → List ℕ
 shown_piece after_two None bytes = flat_map shown_byte bytes
-shown_piece after_two (Some char) bytes = if after_two && char == 91 then escaped_byte 91
-    else if nat_lt char 128 then flat_map shown_byte bytes
-    else if is_control char || is_hidden char then shown_code char else bytes
+shown_piece after_two (Some char) bytes = shown_char after_two char bytes
 
 abbrev pub is_hash : Option ℕ → Bool
 is_hash None = false
