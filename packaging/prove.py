@@ -230,13 +230,16 @@ def main(names):
     unknown = [name for name in names if name not in crates]
     if unknown or not names:
         sys.exit(f"prove: no crate {unknown[0]} in crates.txt" if unknown else __doc__)
-    version, known, todo = kit(), {}, []
+    version, known, todo, seen = kit(), {}, [], set()
 
     def need(crate):
         """Adds a crate that isn't proved, after those that it uses."""
-        if crate not in todo and not is_done(crate, known, version):
-            for used in crate.uses:
-                need(used)
+        if crate in seen:
+            return
+        seen.add(crate)
+        for used in crate.uses:
+            need(used)
+        if not is_done(crate, known, version):
             todo.append(crate)
 
     for name in names:

@@ -90,7 +90,8 @@ class Finding(NamedTuple):
             text = words.rpartition(" [")[0].partition("git reads ")[2]
         elif kind == Kind.ITSELF_MAPPED:
             said, by, lines = words.rpartition(" by ")
-            text = said.partition("> is itself mapped, to ")[2]
+            # A name may have these words, but no `<`.
+            text = said.partition("<")[2].partition("> is itself mapped, to ")[2]
             words = said + by + lines.replace(":", "line ")
         return cls(line, kind, other or None, text, words)
 
@@ -113,8 +114,8 @@ class Place(NamedTuple, Generic[AnyStr]):
 
 
 class Named(NamedTuple, Generic[AnyStr]):
-    """A name and an email that a message has, and a number that it has, mostly how often they come. What it doesn't
-    have is None."""
+    """A name and an email that a message has, and a number: how often they come, or of what git reads, its lines. What
+    a message doesn't have is None."""
 
     name: Optional[AnyStr]
     email: Optional[AnyStr]

@@ -69,6 +69,10 @@ class Texts(unittest.TestCase):
                 (1, Kind.ITSELF_MAPPED, None, "Eve <eve@e>",
                  "warning: Eve <eve@w> is itself mapped, to Eve <eve@e> by line 2 [itself-mapped]"),
             ]),
+            (b"x> is itself mapped, to y <a@x> <b@x>\nZ <a@x>", [
+                (1, Kind.ITSELF_MAPPED, None, "Z <a@x>",
+                 "warning: x> is itself mapped, to y <a@x> is itself mapped, to Z <a@x> by line 2 [itself-mapped]"),
+            ]),
             (b"J is itself mapped, to J <a@x> <b@x>\n<c@x> <a@x>", [
                 (1, Kind.ITSELF_MAPPED, None, "J is itself mapped, to J <c@x>",
                  "warning: J is itself mapped, to J <a@x> is itself mapped, to J is itself mapped, to J <c@x> by line 2 "

@@ -1,6 +1,6 @@
 -- What follows from the laws of normal lists.
-use Rattle.std.proofs.Common.{◌≡◌, ◌≤◌, ◌∙◌, Bool, true, List, [], filter, length, sym, subst, ap, arith}
-use Rattle.std.specs.Prelude.{◌↔◌}
+use Rattle.std.proofs.Common.{◌≡◌, ◌≤◌, ◌∙◌, Bool, Err, Ok, Result, true, List, [], filter, length, sym, subst, ap, arith}
+use Rattle.std.specs.Prelude.{◌↔◌, OnErr, OnOk}
 use Rattle.std.specs.Ordering.{eq_by_cmp}
 use Rattle.std.proofs.lemmas.List.{nil_from_length}
 use Rattle.gix_mailmap.specs.Entries.{Mapping}
@@ -20,3 +20,8 @@ equal_exactly unique h g n m ours theirs is = (
   λ yes x. (λ d. subst (IsNormal g) (sym (is.0 yes) ∙ unique h n x ours d) theirs, λ d. subst (IsNormal h) (is.0 yes ∙ unique g m x theirs d) ours),
   λ same. is.1 (unique g n m ((same n).0 ours) theirs),
 )
+
+-- what holds after success and after an error
+pub either_way : {T E : Type 0} (r : Result T E) (P : Type 0) → OnOk r P → OnErr r P → P
+either_way (Ok value) P ok err = ok
+either_way (Err error) P ok err = err
