@@ -1,21 +1,58 @@
 //! Contacts: how they are answered, parted from mailmaps, and how mailmaps are written as one.
+use crate::listing::push_written;
 use crate::names;
 use crate::script::{Run, assert_script, cut, push_between};
 use bstr::ByteSlice;
 use mailmap_snapshot::check::{ContactStream, check, compact, split};
-use std::alloc::{AllocError, Global};
+use mailmap_snapshot::snapshot::WriteError;
+use std::alloc::Global;
 
 pub fn call(run: &mut Run, word: &str, given: &[u8]) {
     match word {
-        "check" => push_checked(run, given),
-        "compact" => push_compact(run, given),
-        "split" => {
-            let (before, after) = split(given);
-            push_between(&mut run.text, "    ", before, "\n");
-            push_between(&mut run.text, "    ", after, "\n");
-        }
+        "check" => push_checked(&mut run.text, run.alloc, given),
+        "compact" => push_written(&mut run.text, compacted(run.alloc, given)),
+        "split" => push_split(&mut run.text, given),
         _ => names::call(run, word, given),
     }
+}
+
+fn push_split(text: &mut String, given: &[u8]) {
+    let (before, after) = split(given);
+    push_between(text, "    ", before, "\n");
+    push_between(text, "    ", after, "\n");
+}
+
+fn compacted(alloc: Global, given: &[u8]) -> Result<Vec<u8>, WriteError> {
+    Ok(compact(alloc, &parts_of(alloc, given))?)
+}
+
+/// Appends what contacts, the last text, are answered with buffers, the other texts, at once and byte by byte.
+fn push_checked(text: &mut String, alloc: Global, given: &[u8]) {
+    let (others, contacts) = given.rsplit_once_str(b"; ").unwrap_or((b"", given));
+    let buffers = parts_of(alloc, others);
+    push_written(text, checked(alloc, &buffers, contacts));
+    push_written(text, checked_in_turn(alloc, &buffers, contacts));
+}
+
+fn checked(alloc: Global, buffers: &[&[u8]], contacts: &[u8]) -> Result<Vec<u8>, WriteError> {
+    Ok(check(alloc, buffers, contacts)?)
+}
+
+fn checked_in_turn(
+    alloc: Global,
+    buffers: &[&[u8]],
+    contacts: &[u8],
+) -> Result<Vec<u8>, WriteError> {
+    let mut answers = Vec::new(alloc);
+    push_in_turn(&mut answers, ContactStream::new(alloc, buffers)?, contacts);
+    Ok(answers)
+}
+
+fn push_in_turn(answers: &mut Vec<u8>, mut stream: ContactStream, contacts: &[u8]) {
+    for byte in contacts {
+        let _ = stream.push(&[*byte], answers);
+    }
+    let _ = stream.finish(answers);
 }
 
 /// The given texts. An empty text has none.
@@ -33,42 +70,11 @@ fn parts_of(alloc: Global, given: &[u8]) -> Vec<&[u8]> {
     parts
 }
 
-fn push_compact(run: &mut Run, given: &[u8]) {
-    let buffers = parts_of(run.alloc, given);
-    push_made(&mut run.text, compact(run.alloc, &buffers));
-}
-
-fn push_made(text: &mut String, made: Result<Vec<u8>, AllocError>) {
-    if let Ok(bytes) = made {
-        push_between(text, "    ", &bytes, "\n");
-    }
-}
-
-/// Appends what contacts, the last text, are answered with buffers, the other texts, at once and byte by byte.
-fn push_checked(run: &mut Run, given: &[u8]) {
-    let (others, contacts) = given.rsplit_once_str(b"; ").unwrap_or((b"", given));
-    let buffers = parts_of(run.alloc, others);
-    push_made(&mut run.text, check(run.alloc, &buffers, contacts));
-    if let Ok(stream) = ContactStream::new(run.alloc, &buffers) {
-        push_in_turn(run, stream, contacts);
-    }
-}
-
-fn push_in_turn(run: &mut Run, mut stream: ContactStream, contacts: &[u8]) {
-    let mut answers = Vec::new(run.alloc);
-    for byte in contacts {
-        let _ = stream.push(&[*byte], &mut answers);
-    }
-    let _ = stream.finish(&mut answers);
-    push_between(&mut run.text, "    ", &answers, "\n");
-}
-
 #[test]
 fn contacts_are_answered_and_mailmaps_are_written_as_one(rt: HostRuntime) {
     assert_script(
         &rt,
-        r#"
-## contacts are answered at once, and then byte by byte, and other lines are kept
+        r#"## contacts are answered at once, and then byte by byte, and other lines are kept
 # the case of an email doesn't count
 check Joe R. Developer <joe@example.com> <bugs@example.com>\n; bob <BUGS@example.com>\n
     Joe R. Developer <joe@example.com>\n

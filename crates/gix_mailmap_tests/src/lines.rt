@@ -1,40 +1,43 @@
 //! Lines of mailmaps, and the entries that they are parsed as.
+ghost use Rattle.std.specs.Iterator.{IsFinite};
+
 use crate::script::{Run, assert_script, contact_of, cut, push, push_between};
 use crate::snapshots;
 use mailmap_entries::Entry;
 use mailmap_grammar::lines::Error;
 use mailmap_grammar::{parse, parse_ignore_errors, parse_strict};
+use mailmap_snapshot::Snapshot;
 use std::alloc::Global;
 
 /// What a line is parsed as.
 type Item<'a> = Result<Entry<'a>, Error<'a>>;
 
 pub fn call(run: &mut Run, word: &str, given: &[u8]) {
-    let text = &mut run.text;
     match word {
-        "parse" => push_parsed(text, given),
-        "parse_strict" => push_strictly_parsed(text, given),
-        "parse_ignore_errors" => push_good(text, given),
-        "bytes" => push_bytes(text),
-        "brackets" => push_kinds(text, "    ", &BRACKETS, "\n"),
+        "parse" => push_items(&mut run.text, parse(given)),
+        "parse_strict" => push_items(&mut run.text, parse_strict(given)),
+        "parse_ignore_errors" => push_entries(&mut run.text, parse_ignore_errors(given)),
+        "bytes" => push_bytes(&mut run.text),
+        "brackets" => push_kinds(&mut run.text, "    ", &BRACKETS, "\n"),
+        "#" | "##" => run.snapshot = Snapshot::empty(run.alloc),
         _ => snapshots::call(run, word, given),
     }
 }
 
-fn push_parsed(text: &mut String, buffer: &[u8]) {
-    for item in parse(buffer) {
+fn push_items<'a, I: Iterator<Item = Item<'a>> + Drop>(text: &mut String, items: I)
+    requires can { I.can_next items }
+    requires finite { IsFinite (I.remaining items) }
+{
+    for item in items {
         push_item(text, &item);
     }
 }
 
-fn push_strictly_parsed(text: &mut String, buffer: &[u8]) {
-    for item in parse_strict(buffer) {
-        push_item(text, &item);
-    }
-}
-
-fn push_good(text: &mut String, buffer: &[u8]) {
-    for entry in parse_ignore_errors(buffer) {
+pub fn push_entries<'a, I: Iterator<Item = Entry<'a>> + Drop>(text: &mut String, entries: I)
+    requires can { I.can_next entries }
+    requires finite { IsFinite (I.remaining entries) }
+{
+    for entry in entries {
         push_entry(text, &entry);
     }
 }
@@ -51,7 +54,7 @@ fn push_item(text: &mut String, item: &Item<'_>) {
 }
 
 /// Appends an entry as a line of a mailmap has it.
-pub fn push_entry(text: &mut String, entry: &Entry<'_>) {
+fn push_entry(text: &mut String, entry: &Entry<'_>) {
     push_contact(text, "   ", entry.new_name(), entry.new_email());
     push_contact(text, "", entry.old_name(), Some(entry.old_email()));
     push(text, "\n");
@@ -136,8 +139,7 @@ fn kind_of(item: &Option<Item<'_>>, line: &[u8]) -> &'static str {
 fn a_line_has_an_entry_a_fault_or_nothing(rt: HostRuntime) {
     assert_script(
         &rt,
-        r#"
-## a line has an entry, a fault or nothing; comments and blank lines are counted
+        r#"## a line has an entry, a fault or nothing; comments and blank lines are counted
 # an empty buffer has no line
 parse
 parse_ignore_errors

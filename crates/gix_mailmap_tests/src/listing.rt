@@ -1,54 +1,47 @@
 //! What snapshots list, how they compare, and what they are written as.
-use crate::lines::{entries_of, push_entry};
+use crate::lines::{entries_of, push_entries};
 use crate::lookups;
 use crate::orders::hash_of;
-use crate::script::{Run, assert_script, push_between, push_bool};
+use crate::script::{Run, assert_script, push_between, push_value};
 use mailmap_snapshot::Snapshot;
 use mailmap_snapshot::snapshot::WriteError;
 use std::alloc::AllocError;
 
 pub fn call(run: &mut Run, word: &str, given: &[u8]) {
     match word {
-        "iter" => push_listed(&mut run.text, &run.snapshot),
-        "entries" => push_entries(run),
+        "iter" => push_entries(&mut run.text, run.snapshot.iter()),
+        "entries" => push_listed(run),
         "equals" => push_equality(run, given),
-        "debug" => {
-            let _ = writeln!(run.text, "    {:?}", run.snapshot);
-        }
+        "debug" => push_debug(&mut run.text, &run.snapshot),
         "write" => push_written(&mut run.text, run.snapshot.write(run.alloc)),
-        "write_without_memory" => {
-            push_written(&mut run.text, Err(WriteError::Memory(AllocError)))
-        }
         _ => lookups::call(run, word, given),
     }
 }
 
-fn push_listed(text: &mut String, snapshot: &Snapshot) {
-    for entry in snapshot.iter() {
-        push_entry(text, &entry);
-    }
+/// Appends the debug text of a snapshot, and the text of the error that no script can bring about.
+fn push_debug(text: &mut String, snapshot: &Snapshot) {
+    push_value(text, snapshot);
+    push_written(text, Err(WriteError::Memory(AllocError)));
 }
 
 /// Appends the entries, and how many there are.
-fn push_entries(run: &mut Run) {
+fn push_listed(run: &mut Run) {
     if let Ok(entries) = run.snapshot.entries(run.alloc) {
-        for entry in entries.iter() {
-            push_entry(&mut run.text, entry);
-        }
+        push_entries(&mut run.text, entries.iter().copied());
     }
-    let _ = writeln!(run.text, "    {}", run.snapshot.len());
+    push_value(&mut run.text, &run.snapshot.len());
 }
 
 /// Appends whether the snapshot is equal to that of other entries, and hashes alike.
 fn push_equality(run: &mut Run, given: &[u8]) {
     let entries = entries_of(run.alloc, given);
     if let Ok(other) = Snapshot::new(run.alloc, entries.into_iter()) {
-        let is_same = run.snapshot == other && hash_of(&run.snapshot) == hash_of(&other);
-        push_bool(&mut run.text, is_same);
+        let is_same = (run.snapshot == other) & (hash_of(&run.snapshot) == hash_of(&other));
+        push_value(&mut run.text, &is_same);
     }
 }
 
-fn push_written(text: &mut String, written: Result<Vec<u8>, WriteError>) {
+pub fn push_written(text: &mut String, written: Result<Vec<u8>, WriteError>) {
     match written {
         Ok(bytes) => push_between(text, "    ", &bytes, "\n"),
         Err(error) => {
@@ -61,8 +54,7 @@ fn push_written(text: &mut String, written: Result<Vec<u8>, WriteError>) {
 fn snapshots_are_listed_compared_and_written(rt: HostRuntime) {
     assert_script(
         &rt,
-        r#"
-## entries are listed by the old email without case, and for each email the one without an old name first, then by the
+        r#"## entries are listed by the old email without case, and for each email the one without an old name first, then by the
 ## old name
 # an empty buffer
 from_bytes
@@ -95,10 +87,11 @@ entries
     <3@y> ann <B@x>
     <1@y> Zoe <B@x>
     5
-# the debug text is that of the entries
+# the debug text is that of the entries; the text of the error for memory is below it
 from_bytes N <a@x>
 debug
     [Entry { new_name: Some([78]), new_email: None, old_name: None, old_email: [97, 64, 120] }]
+    out of memory
 ## snapshots are equal by what they list; equals compares with that of other entries, and equal ones hash alike
 # whatever came before
 new N <a@x>
@@ -228,9 +221,6 @@ write
 new <> <x@y>
 write
     entry 0 cannot be written
-# the other error
-write_without_memory
-    out of memory
 "#,
     );
 }

@@ -1,6 +1,6 @@
 //! Names: their words, keys and marks, and the logins of emails.
 use crate::orders;
-use crate::script::{Run, assert_script, cut, push_between, push_bool};
+use crate::script::{Run, assert_script, cut, push_between, push_value};
 use mailmap_names::logins::login;
 use mailmap_names::names::{Name, first_words, login_keys, name_marks};
 use mailmap_names::words::words_of;
@@ -12,8 +12,7 @@ pub fn call(run: &mut Run, word: &str, given: &[u8]) {
         "marks" => push_texts(&mut run.text, name_marks(run.alloc, given)),
         "first_words" => push_texts(&mut run.text, first_words(run.alloc, given)),
         "is_related" => push_related(run, given),
-        "login" => push_between(&mut run.text, "    ", login(given), "\n"),
-        "login_keys" => push_texts(&mut run.text, login_keys(run.alloc, given)),
+        "login" => push_login(run, given),
         _ => orders::call(run, word, given),
     }
 }
@@ -35,13 +34,19 @@ fn push_texts(text: &mut String, made: Result<Vec<Vec<u8>>, AllocError>) {
     }
 }
 
+/// Appends the login of an email, and its keys.
+fn push_login(run: &mut Run, email: &[u8]) {
+    push_between(&mut run.text, "    ", login(email), "\n");
+    push_texts(&mut run.text, login_keys(run.alloc, email));
+}
+
 /// Appends whether a name is related to another one, and the other one to it.
 fn push_related(run: &mut Run, given: &[u8]) {
     let (one, other) = cut(given);
     if let Ok(one) = Name::read(run.alloc, one) {
         if let Ok(other) = Name::read(run.alloc, other) {
-            push_bool(&mut run.text, one.is_related(&other));
-            push_bool(&mut run.text, other.is_related(&one));
+            push_value(&mut run.text, &one.is_related(&other));
+            push_value(&mut run.text, &other.is_related(&one));
         }
     }
 }
@@ -51,8 +56,7 @@ fn push_related(run: &mut Run, given: &[u8]) {
 fn names_and_emails_give_words_keys_and_logins(rt: HostRuntime) {
     assert_script(
         &rt,
-        r#"
-## words; the last names have texts as Unicode compares them: letters with marks, in one character or in two,
+        r#"## words; the last names have texts as Unicode compares them: letters with marks, in one character or in two,
 ## ligatures, wide and small letters, İ and ı, Hangul in syllables or in letters, digits
 # words in lower case, without asides
 words Ann Lee
@@ -289,78 +293,60 @@ is_related Ann Lee Joann; Jo Leeann
 # what is in front of the last @, but for what a forge or a user adds
 login jane@example.com
     jane
-login_keys jane@example.com
     wjane
     tjane
 login Jane.Doe@example.com
     Jane.Doe
-login_keys Jane.Doe@example.com
     wdoe jane
     tjanedoe
 login jane+lists+x@example.com
     jane
-login_keys jane+lists+x@example.com
     wjane
     tjane
 login +jane@example.com
     +jane
-login_keys +jane@example.com
     wjane
     tjane
 login ++x@y
     +
-login_keys ++x@y
 login 12345+jane@users.noreply.github.com
     jane
-login_keys 12345+jane@users.noreply.github.com
     wjane
     tjane
 login 12345+jane+x@USERS.noreply.github.com
     jane
-login_keys 12345+jane+x@USERS.noreply.github.com
     wjane
     tjane
 login +jane@users.noreply.github.com
     +jane
-login_keys +jane@users.noreply.github.com
     wjane
     tjane
 login 12345+jane@example.com
     12345
-login_keys 12345+jane@example.com
     w12345
     t12345
 login 12345@users.noreply.github.com
     12345
-login_keys 12345@users.noreply.github.com
     w12345
     t12345
 login a@b@example.com
     a@b
-login_keys a@b@example.com
 login jane
     jane
-login_keys jane
     wjane
     tjane
 login info@example.com
     info
-login_keys info@example.com
 login No-Reply@example.com
     No-Reply
-login_keys No-Reply@example.com
 login jd@example.com
     jd
-login_keys jd@example.com
 login 12345+git@users.noreply.github.com
     git
-login_keys 12345+git@users.noreply.github.com
 login @example.com
     ""
-login_keys @example.com
 login
     ""
-login_keys
 "#,
     );
 }

@@ -13,17 +13,17 @@ const ANSWER: &[u8] = b"Jane Doe <jane@x>\n";
 #[test]
 fn lines_that_come_again_are_kept(rt: HostRuntime) -> Result<(), AllocError> {
     let mut cache = AnswerCache::new(rt.alloc())?;
-    assert!(rt; is_kept_at_the_second_miss(&mut cache) && found(&mut cache) > ROWS - ROWS / 10);
+    assert!(rt; is_kept_at_the_second_miss(&mut cache) & (found(&mut cache) > ROWS - ROWS / 10));
     Ok(())
 }
 
 fn is_kept_at_the_second_miss(cache: &mut AnswerCache) -> bool {
     let hash = hash_of(LINE);
-    let is_missed = cache.get(hash, LINE).is_none() && !cache.note_miss(hash);
-    let is_missed_again = cache.get(hash, LINE).is_none() && cache.note_miss(hash);
+    let is_missed = cache.get(hash, LINE).is_none() & !cache.note_miss(hash);
+    let is_missed_again = cache.get(hash, LINE).is_none() & cache.note_miss(hash);
     cache.insert(hash, LINE, ANSWER);
     let are_noted = noted(cache) == 100;
-    is_missed && is_missed_again && are_noted && cache.get(hash, LINE) == Some(ANSWER)
+    is_missed & is_missed_again & are_noted & (cache.get(hash, LINE) == Some(ANSWER))
 }
 
 /// How many of 100 lines, the bytes of numbers, are missed once.

@@ -3,7 +3,9 @@
 //! ```text
 //! # an email in another case gets the spelling that is kept
 //! new P <x@y>
-//! try_resolve_ref Bob <X@y>
+//! lookups Bob <X@y>
+//!     P <x@y>
+//!     P <x@y>
 //!     P <x@y>
 //! ```
 //!
@@ -17,6 +19,7 @@ use crate::lines;
 use bstr::{ByteSlice, ByteVec};
 use mailmap_snapshot::Snapshot;
 use std::alloc::Global;
+use std::fmt::Debug;
 use std::process::Abort;
 
 /// The snapshot that calls change and ask, and the script with the answers that they gave.
@@ -29,14 +32,19 @@ pub struct Run {
 
 /// Asserts that all calls of a script answer as it says.
 pub fn assert_script(rt: &(impl Abort + AllocGlobal), script: &str) {
+    let text = answered(rt.alloc(), script);
+    assert!(rt; text.as_str() == script, "{text}");
+}
+
+/// A script with the answers that its calls give.
+fn answered(alloc: Global, script: &str) -> String {
     let mut run = Run {
-        alloc: rt.alloc(),
-        snapshot: Snapshot::empty(rt.alloc()),
-        text: String::new(rt.alloc()),
+        alloc,
+        snapshot: Snapshot::empty(alloc),
+        text: String::new(alloc),
     };
     run_lines(&mut run, script);
-    let text = run.text.as_str();
-    assert!(rt; text == script, "{text}");
+    run.text
 }
 
 fn run_lines(run: &mut Run, script: &str) {
@@ -50,14 +58,9 @@ fn run_lines(run: &mut Run, script: &str) {
 fn run_line(run: &mut Run, line: &str) {
     push(&mut run.text, line);
     push(&mut run.text, "\n");
-    if line.starts_with('#') {
-        run.snapshot = Snapshot::empty(run.alloc);
-        return;
-    }
     let (word, given) = line.split_once(' ').unwrap_or((line, ""));
-    if let Ok(given) = Vec::unescape_bytes(run.alloc, given) {
-        lines::call(run, word, &given);
-    }
+    let given = Vec::unescape_bytes(run.alloc, given).unwrap_or(Vec::new(run.alloc));
+    lines::call(run, word, &given);
 }
 
 /// A number in decimal.
@@ -78,26 +81,22 @@ pub fn cut(text: &[u8]) -> (&[u8], &[u8]) {
 
 /// A name, if there is one, an email in brackets, and what is left.
 pub fn contact_of(text: &[u8]) -> (Option<&[u8]>, &[u8], &[u8]) {
-    let (name, rest): (Option<&[u8]>, &[u8]) = match text.split_once_str(b"<") {
-        Some((b"", rest)) => (None, rest),
-        _ => match text.split_once_str(b" <") {
-            Some((b"\"\"", rest)) => (Some(b""), rest),
-            Some((name, rest)) => (Some(name), rest),
-            None => (Some(text), b""),
-        },
-    };
-    match rest.split_once_str(b"> ") {
-        Some((email, left)) => (name, email, left),
-        None => (name, rest.strip_suffix(b">").unwrap_or(rest), b""),
-    }
+    let bare = text.strip_prefix(b"<");
+    let (name, rest) = text.split_once_str(b" <").unwrap_or((text, b""));
+    let name = name.strip_suffix(b"\"\"").unwrap_or(name);
+    let rest = bare.unwrap_or(rest);
+    let last = rest.strip_suffix(b">").unwrap_or(rest);
+    let (email, left) = rest.split_once_str(b"> ").unwrap_or((last, b""));
+    (bare.is_none().then_some(name), email, left)
 }
 
 pub fn push(text: &mut String, part: &str) {
     let _ = text.push_str(part);
 }
 
-pub fn push_bool(text: &mut String, value: bool) {
-    push(text, if value { "    true\n" } else { "    false\n" });
+/// Appends a value in a line of its own.
+pub fn push_value<T: Debug>(text: &mut String, value: &T) {
+    let _ = writeln!(text, "    {value:?}");
 }
 
 /// Appends bytes between two texts.

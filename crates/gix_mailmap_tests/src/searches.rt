@@ -28,7 +28,7 @@ fn is_found(answers: &[Ordering], want: Result<usize, usize>, at_most: usize) ->
     requires { IsPartitioned answers.now }
 {
     let mut probe = Written { answers, asked: 0 };
-    search(answers.len(), &mut probe) == want && probe.asked <= at_most
+    (search(answers.len(), &mut probe) == want) & (probe.asked <= at_most)
 }
 
 #[test]
@@ -36,9 +36,9 @@ fn is_found(answers: &[Ordering], want: Result<usize, usize>, at_most: usize) ->
 fn a_search_asks_at_most_once_for_each_digit(rt: HostRuntime) {
     assert!(rt;
         is_found(&[], Err(0), 0)
-            && is_found(&[Equal], Ok(0), 1)
-            && is_found(&[Less], Err(1), 1)
-            && is_found(&[Less, Less, Equal], Ok(2), 2)
-            && is_found(&[Less, Less, Greater, Greater], Err(2), 3)
+            & is_found(&[Equal], Ok(0), 1)
+            & is_found(&[Less], Err(1), 1)
+            & is_found(&[Less, Less, Equal], Ok(2), 2)
+            & is_found(&[Less, Less, Greater, Greater], Err(2), 3)
     );
 }
