@@ -39,7 +39,7 @@ SIZES = [1_000, 10_000, 100_000, MILLION]
 # the tables that each part makes
 PARTS = {
     "processes": ["processes", "all processes", "process memory"],
-    "calls": ["calls", "all calls"],
+    "calls": ["all calls"],
     "c": ["c", "threads"],
     "rust": ["rust"],
     "python": ["python", "python lines"],

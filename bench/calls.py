@@ -114,19 +114,13 @@ def growth(cells: list[Cell]) -> str:
 
 
 def tables(cells: list[Cell]) -> dict[str, str]:
-    """All calls with a column for each size, and those of 100,000 lines with a column for each kind of map."""
+    """All calls with a column for each size."""
     sizes = sorted({cell.lines for cell in cells})
     rows: dict[tuple[str, str], list[Cell]] = {}
     for cell in cells:
         rows.setdefault((cell.what, cell.map), []).append(cell)
-    every, some = [], {}
+    every = []
     for (what, kind), row in rows.items():
         texts = {cell.lines: cell.text() for cell in row}
         every.append([what, kind, *[texts.get(lines, "") for lines in sizes], growth(row)])
-        if WHOLE_SIZE in texts and what != LAST:
-            some.setdefault(what, {})[kind] = texts[WHOLE_SIZE]
-    summary = [[what, *[texts.get(kind, "") for kind in KINDS]] for what, texts in some.items()]
-    return {
-        "calls": table([f"{WHOLE_SIZE:,} lines", *[f" {kind}" for kind in KINDS]], summary),
-        "all calls": table(["call", "map", *[f" {lines:,} lines" for lines in sizes], " grows by"], every),
-    }
+    return {"all calls": table(["call", "map", *[f" {lines:,} lines" for lines in sizes], " grows by"], every)}

@@ -161,7 +161,7 @@ typedef struct gix_mailmap_place {
     size_t len;
 } gix_mailmap_place;
 
-/* A name and an email that a message has, and a number that it has, mostly how often they come. What it doesn't have is
+/* A name and an email that a message has, and a number: how often they come, or of what git reads, its lines. What it doesn't have is
  * empty, or 0. */
 typedef struct gix_mailmap_mention {
     gix_mailmap_place name;
@@ -367,7 +367,8 @@ gix_mailmap_status gix_mailmap_report(const gix_mailmap_named *mailmaps, size_t 
  * As JSON, a finding has the members `file`, `line`, `level`, `kind` and `message`; `at`, with a `file` and a `line`,
  * if the message refers to another line; and as far as the message has them a `name`, an `email` and a `count`, and the
  * same in `beside`, of what it names second. A text is `{"text": ".."}`, or `{"bytes": ".."}` in Base64 if it isn't
- * UTF-8; only what JSON needs is escaped. Later versions may write more members.
+ * UTF-8. Escaped are what JSON needs, `[` after `##`, control characters, and characters of the general categories Cf,
+ * Zl and Zp, all as JSON does it. Later versions may write more members.
  *
  * As annotations, findings are what GitHub's workflows show at the lines of a file, such as
  *

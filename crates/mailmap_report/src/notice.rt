@@ -43,7 +43,8 @@ pub struct Notice<'a> {
     pub beside: Option<Named<'a>>,
 }
 
-/// A name, an email and a number, each if a message has it. The number says how often they come.
+/// A name, an email and a number, each if a message has it. The number says how often they come, or of what git reads,
+/// how many lines it is.
 #[derive(Clone, Copy)]
 pub struct Named<'a> {
     pub name: Option<&'a [u8]>,
