@@ -12,7 +12,7 @@ pub fn call(run: &mut Run, word: &str, given: &[u8]) {
     match word {
         "new" => make(run, &entries_of(run.alloc, given)),
         "from_bytes" => read(run, given),
-        "numbered" => read_numbered(run, given),
+        "numbered" | "backwards" | "repeated" => read_numbered(run, word, given),
         "try_clone" => copy(run),
         "collect" => collect(run, given),
         "merge" => merge(&mut run.snapshot, &entries_of(run.alloc, given)),
@@ -65,14 +65,16 @@ fn copy(run: &mut Run) {
     replace(run, copied);
 }
 
-/// Makes a snapshot of lines one by one, and at once from their entries and from the text.
+/// Makes a snapshot of lines at once, from the text and from its entries, and one by one, which is the one that stays.
 fn read(run: &mut Run, mailmap: &[u8]) {
-    run.snapshot = Snapshot::empty(run.alloc);
+    let mut merged = Snapshot::empty(run.alloc);
     for entry in parse_ignore_errors(mailmap) {
-        merge(&mut run.snapshot, &[entry]);
+        merge(&mut merged, &[entry]);
     }
+    let read = Snapshot::from_bytes(run.alloc, mailmap);
+    run.snapshot = read.unwrap_or(Snapshot::empty(run.alloc));
     replace(run, Snapshot::new(run.alloc, parse_ignore_errors(mailmap)));
-    replace(run, Snapshot::from_bytes(run.alloc, mailmap));
+    replace(run, Ok(merged));
 }
 
 /// Why a mailmap wasn't collected.
@@ -103,11 +105,18 @@ fn collect(run: &mut Run, mailmap: &[u8]) {
     }
 }
 
-/// Makes a snapshot of as many lines as are asked for, each made of a pattern.
-fn read_numbered(run: &mut Run, given: &[u8]) {
+/// Makes a snapshot of as many lines as are asked for, each made of a pattern and its number: for `backwards` from the last
+/// to the first, for `repeated` all with 0, which leaves letters as they are.
+fn read_numbered(run: &mut Run, word: &str, given: &[u8]) {
     let (count, pattern) = cut(given);
+    let count = number_of(count);
     let mut mailmap = String::new(run.alloc);
-    for number in 0..number_of(count) {
+    for i in 0..count {
+        let number = match word {
+            "backwards" => count - 1 - i,
+            "repeated" => 0,
+            _ => i,
+        };
         push_numbered(&mut mailmap, pattern, number);
     }
     read(run, mailmap.as_bytes());
@@ -249,9 +258,9 @@ entries
     4095 <abcdefghijkl>
     1
 # in the other direction
-numbered 4096; # <ABCDEFGHIJKL>
+backwards 4096; # <abcdefghijkl>
 entries
-    4095 <ABCDEFGHIJKL>
+    0 <ABCDEFGHIJKL>
     1
 # all spellings of a name
 numbered 4096; <n#> abcdefghijkl <K@x>
@@ -259,12 +268,12 @@ entries
     <n4095> abcdefghijkl <K@x>
     1
 # a thousand replaced names leave no trace in what is compared, hashed, copied and listed
-numbered 1000; Noon <x@y>\nN <x@y>
-equals N <x@y>
+repeated 1000; Long <a@x>\nN <a@x>
+equals N <a@x>
     true
 try_clone
 entries
-    N <x@y>
+    N <a@x>
     1
 ## sources are merged in turn; merge_sources has the buffers N <a@x>, an empty one and M <a@x>, a list of the default
 ## entry and <n@y> <B@x>, and a list of the default entry alone, and says which of them were merged

@@ -127,7 +127,7 @@ pub fn law_none_remembered()
 {}
 
 /// Each suggested entry is needed: without it, some contact of a group that has it doesn't get the group's proper
-/// answer, by this library or by git. Nothing is said of entries with the old email of a contact that is left out.
+/// answer, by this library or by git. Left out are entries with the old email of a contact that is left out.
 pub fn law_each_needed()
     ensures emails { (s : Selection) → AllByRecursion HasNoEmptyName s.mappings → EachNeeded (λ _. false) (by_email s) }
     ensures names { (s : Selection) → AllByRecursion HasNoEmptyName s.mappings → AreLinked s
