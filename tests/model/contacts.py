@@ -1,7 +1,7 @@
 """The model of `mailmap_verify --explain` and `--contacts`.
 
 The definitions are in `specs` of `mailmap_redundancy` (`Origins`), `mailmap_findings` (`Explanations`, `Needs`,
-`Remarks`), `contact_counter` (`Contacts`), `mailmap_contacts` (`Proper`, `Comparisons`), `mailmap_suggestions` and
+`Remarks`), `mailmap_contacts` (`Contacts`, `Proper`), `mailmap_suggestions` and
 `mailmap_report` (`Explained`, `Report`).
 """
 from findings import (

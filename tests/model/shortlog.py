@@ -1,4 +1,4 @@
-"""The model of `mailmap_shortlog`. The definitions are in `specs` of `shortlog_command` (`Shortlog`)."""
+"""The model of `mailmap_shortlog`. The definitions are in `specs` of `mailmap_shortlog` (`Shortlog`)."""
 from mailmap import answer, contact_of, entries_of, lines, trim
 from shown import shown_text
 

@@ -9,17 +9,17 @@ use Rattle.mailmap_entries.proofs.Parts.{all_map, all_mapped}
 use Rattle.gix_mailmap.specs.Entries.{Mapping}
 use Rattle.gix_mailmap.specs.Folding.{Text}
 use Rattle.gix_mailmap.specs.Semantics.{last}
-use Rattle.mailmap_contacts.specs.Contacts.{Contact, Tally}
+use Rattle.gix_mailmap.specs.CountedContacts.{Contact, Tally}
 use Rattle.gix_mailmap.specs.GitAnswers.{git_mappings}
 use Rattle.gix_mailmap.specs.Lines.{mappings_of}
-use Rattle.mailmap_suggestions.specs.Forms.{alike}
-use Rattle.mailmap_suggestions.specs.GroupEntries.{email_entries, with_emails}
-use Rattle.mailmap_suggestions.specs.Histories.{histories_of}
-use Rattle.mailmap_suggestions.specs.Selections.{after_logins, by_login, by_name, stage_entries}
-use Rattle.mailmap_suggestions.specs.Shared.{shared_emails}
-use Rattle.mailmap_suggestions.specs.SuggestedText.{feed_after, feed_unless, printed, suggested_text, suggestions_text}
-use Rattle.mailmap_suggestions.specs.Suggestions.{GroupClasses, Suggestion, is_remembered, lines_in, new_entries, suggestions}
-use Rattle.mailmap_suggestions.specs.Written.{selected_text}
+use Rattle.gix_mailmap.specs.Forms.{alike}
+use Rattle.gix_mailmap.specs.GroupEntries.{email_entries, with_emails}
+use Rattle.gix_mailmap.specs.Histories.{histories_of}
+use Rattle.gix_mailmap.specs.Selections.{after_logins, by_login, by_name, stage_entries}
+use Rattle.gix_mailmap.specs.Shared.{shared_emails}
+use Rattle.gix_mailmap.specs.SuggestedText.{feed_after, feed_unless, printed, suggested_text, suggestions_text}
+use Rattle.gix_mailmap.specs.Suggestions.{GroupClasses, Suggestion, is_remembered, lines_in, new_entries, suggestions}
+use Rattle.gix_mailmap.specs.Written.{selected_text}
 use Rattle.caller_promises.specs.Suggested.{AreUnited, git_mappings_in, mappings_in, selection_of, with_last}
 
 -- ---- contacts that were counted

@@ -6,18 +6,18 @@ use Rattle.gix_mailmap.specs.Entries.{Mapping}
 use Rattle.gix_mailmap.specs.Folding.{Text, folded}
 use Rattle.gix_mailmap.specs.GitAnswers.{git_mappings}
 use Rattle.gix_mailmap.specs.Lines.{mappings_of}
-use Rattle.mailmap_contacts.specs.Contacts.{Contact, Tally, answer_to, contacts_from, tallied}
+use Rattle.gix_mailmap.specs.CountedContacts.{Contact, Tally, answer_to, contacts_from, tallied}
 use Rattle.mailmap_snapshot.specs.declared.actor.Signature.{Signature}
-use Rattle.mailmap_suggestions.specs.Forms.{alike, git_answer_to, is_shared}
-use Rattle.mailmap_suggestions.specs.GroupEntries.{Unites, contacts, uncut_email_class}
-use Rattle.mailmap_suggestions.specs.Histories.{histories_of}
-use Rattle.mailmap_suggestions.specs.Selections.{AllAgreeBut, Selection, Selects, after_emails, after_names}
-use Rattle.mailmap_suggestions.specs.Selections.{by_email, by_login, by_name, has_cut_email, is_left_out}
-use Rattle.mailmap_suggestions.specs.Selections.{is_left_out_later, uncut_class}
-use Rattle.mailmap_suggestions.specs.Shared.{shared_emails}
-use Rattle.mailmap_suggestions.specs.SuggestedText.{feed_after}
-use Rattle.mailmap_suggestions.specs.Suggestions.{AreGroupClasses, GroupClasses, lines_in}
-use Rattle.mailmap_suggestions.specs.Written.{ContactHoldsNoZero, selected_text}
+use Rattle.gix_mailmap.specs.Forms.{alike, git_answer_to, is_shared}
+use Rattle.gix_mailmap.specs.GroupEntries.{Unites, contacts, uncut_email_class}
+use Rattle.gix_mailmap.specs.Histories.{histories_of}
+use Rattle.gix_mailmap.specs.Selections.{AllAgreeBut, Selection, Selects, after_emails, after_names}
+use Rattle.gix_mailmap.specs.Selections.{by_email, by_login, by_name, has_cut_email, is_left_out}
+use Rattle.gix_mailmap.specs.Selections.{is_left_out_later, uncut_class}
+use Rattle.gix_mailmap.specs.Shared.{shared_emails}
+use Rattle.gix_mailmap.specs.SuggestedText.{feed_after}
+use Rattle.gix_mailmap.specs.Suggestions.{AreGroupClasses, GroupClasses, lines_in}
+use Rattle.gix_mailmap.specs.Written.{ContactHoldsNoZero, selected_text}
 
 -- ---- mailmaps and contacts
 

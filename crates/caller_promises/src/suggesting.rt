@@ -8,11 +8,10 @@ ghost use Rattle.gix_mailmap.specs.Folding.{Text};
 ghost use Rattle.gix_mailmap.specs.Lines.{mappings_of};
 ghost use Rattle.gix_mailmap.specs.Positions.{whole_lines};
 ghost use Rattle.gix_mailmap.specs.Semantics.{IsNormal};
-ghost use Rattle.mailmap_contacts.specs.Answers.{tally_of};
-ghost use Rattle.mailmap_contacts.specs.Contacts.{answer_to, contacts_from, tallied};
-ghost use Rattle.mailmap_contacts.specs.Counts.{AreContactsOf};
-ghost use Rattle.mailmap_suggestions.specs.Printed.{IsSuggested};
-ghost use Rattle.mailmap_suggestions.specs.Suggestions.{GroupClasses};
+ghost use Rattle.gix_mailmap.specs.CountedContacts.{answer_to, contacts_from, tallied};
+ghost use Rattle.gix_mailmap.specs.Counts.{AreContactsOf, tally_of};
+ghost use Rattle.gix_mailmap.specs.Printed.{IsSuggested};
+ghost use Rattle.gix_mailmap.specs.Suggestions.{GroupClasses};
 ghost use Rattle.caller_promises.specs.Suggested.{HoldNoZero, IsEdited, SelectsAppended, UnitesAppended};
 ghost use Rattle.caller_promises.specs.Suggested.{contact_in, contacts_in, mappings_in, with_last};
 

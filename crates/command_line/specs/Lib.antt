@@ -4,3 +4,5 @@ pub mod Files
 pub mod Messages
 pub mod Outcome
 pub mod Printing
+pub mod GitLog
+pub mod Counted

@@ -28,3 +28,20 @@ pub use Rattle.mailmap_findings.specs.IgnoredText
 pub use Rattle.mailmap_snapshot.specs.Contacts
 pub use Rattle.mailmap_snapshot.specs.Parts
 pub use Rattle.mailmap_snapshot.specs.Streams
+pub use Rattle.mailmap_contacts.specs.Contacts as CountedContacts
+pub use Rattle.mailmap_contacts.specs.Counts
+pub use Rattle.mailmap_contacts.specs.Proper
+pub use Rattle.mailmap_suggestions.specs.Forms
+pub use Rattle.mailmap_suggestions.specs.Counted
+pub use Rattle.mailmap_suggestions.specs.EntryLines
+pub use Rattle.mailmap_suggestions.specs.Histories
+pub use Rattle.mailmap_suggestions.specs.Shared
+pub use Rattle.mailmap_suggestions.specs.Links
+pub use Rattle.mailmap_suggestions.specs.GroupEntries
+pub use Rattle.mailmap_suggestions.specs.Suggestions
+pub use Rattle.mailmap_suggestions.specs.Views
+pub use Rattle.mailmap_suggestions.specs.SuggestedText
+pub use Rattle.mailmap_suggestions.specs.Written
+pub use Rattle.mailmap_suggestions.specs.Printed
+pub use Rattle.mailmap_suggestions.specs.Appending
+pub use Rattle.mailmap_suggestions.specs.Selections

@@ -20,9 +20,10 @@
 //! follows from them.
 #![tactic(auto)]
 
+pub mod answers;
 pub mod laws;
 
-pub use mailmap_contacts::{answers, counter, occurrences};
+pub use mailmap_contacts::{counter, occurrences};
 pub use mailmap_entries::{Entry, fold};
 pub use mailmap_findings::{explain, needs, remarks, verify};
 pub use mailmap_grammar::{lines, parse, parse_ignore_errors, parse_strict};

@@ -5,6 +5,7 @@ ghost use Rattle.mailmap_contacts.specs.Counts.{AreContactsOf};
 ghost use Rattle.mailmap_entries.specs.Folding.{Text};
 ghost use Rattle.mailmap_findings.specs.Needs.{AreUnneeded};
 ghost use Rattle.mailmap_findings.specs.Positions.{whole_lines};
+ghost use Rattle.mailmap_findings.specs.Remarks.{AreRemarks, Remark};
 ghost use Rattle.mailmap_report.specs.Json.{named_of, notice_of};
 ghost use Rattle.mailmap_report.specs.Report.{contact_notice as the_contact_notice, finding_notice as the_finding_notice};
 ghost use Rattle.mailmap_report.specs.Report.{remark_notice as the_remark_notice};
@@ -19,7 +20,6 @@ use crate::parsing::Place;
 use crate::several::{Lengths, counted_in, names_of, texts_of};
 use crate::status::{OK, OUT_OF_MEMORY, TOO_SHORT};
 use mailmap_contacts::counter::Contacts;
-use mailmap_contacts::unneeded::unneeded_by;
 use mailmap_findings::remarks::Remarks;
 use mailmap_findings::verify::{Findings, Mailmaps, Verification};
 use mailmap_redundancy::Position;
@@ -27,6 +27,7 @@ use mailmap_report::notice::{
     NO_NAME, Named, Notice, contact_notice, finding_notice, remark_notice,
 };
 use mailmap_suggestions::findings::{ContactFinding, contact_findings};
+use mailmap_suggestions::unneeded::unneeded_by;
 use std::alloc::{AllocError, Global};
 
 /// A finding in words: the number of its line, from 1, and the places of its texts: the name of its file, its level, its
@@ -96,8 +97,9 @@ pub extern "C" fn gix_mailmap_text_notices(
     ensures { ArePutWords (AreWordsOf (names_in lengths.now names.now) (texts_in lengths.now texts.now))
         out.old out.new out_texts.old out_texts.new needed.new texts_needed.new result }
 {
-    let made = words_alone(alloc, lengths, names, texts);
-    hand_words(made, out, out_texts, needed, texts_needed)
+    let mut words = Words::new(alloc);
+    let made = push_alone(alloc, &mut words, lengths, names, texts);
+    hand_words(made, &words, out, out_texts, needed, texts_needed)
 }
 
 /// Lists the findings in several mailmaps and in contacts in words, those of
@@ -120,68 +122,84 @@ pub extern "C" fn gix_mailmap_text_notices_beside(
     ensures { ArePutWords (AreWordsBeside (names_in lengths.now names.now) (texts_in lengths.now texts.now) file.now
         contacts.now) out.old out.new out_texts.old out_texts.new needed.new texts_needed.new result }
 {
-    let made = words_beside(alloc, lengths, names, texts, file, contacts);
-    hand_words(made, out, out_texts, needed, texts_needed)
+    let mut words = Words::new(alloc);
+    let made = push_beside(alloc, &mut words, lengths, names, texts, file, contacts);
+    hand_words(made, &words, out, out_texts, needed, texts_needed)
 }
 
-fn words_alone(
+fn push_alone(
     alloc: Global,
+    words: &mut Words,
     lengths: &[Lengths],
     names: &[u8],
     texts: &[u8],
-) -> Result<Words, AllocError>
-    ensures { IfOk result (λ w. AreWordsOf (names_in lengths.now names.now) (texts_in lengths.now texts.now)
-        (words_of w)) }
+) -> Result<(), AllocError>
+    ensures { words_of words.old ≡ no_words → OnOk result
+        (AreWordsOf (names_in lengths.now names.now) (texts_in lengths.now texts.now) (words_of words.new)) }
 {
     let names = names_of(alloc, lengths, names)?;
     let buffers = texts_of(alloc, lengths, texts)?;
-    words_in(alloc, names.as_slice(), buffers.as_slice())
+    push_found(alloc, words, names.as_slice(), buffers.as_slice())
 }
 
-fn words_in(alloc: Global, names: &[Vec<u8>], buffers: &[&[u8]]) -> Result<Words, AllocError>
-    ensures { IfOk result (λ w. AreWordsOf (map (λ name. name.items) names.now) (map (λ b. b.now) buffers.now)
-        (words_of w)) }
+fn push_found(
+    alloc: Global,
+    words: &mut Words,
+    names: &[Vec<u8>],
+    buffers: &[&[u8]],
+) -> Result<(), AllocError>
+    ensures { words_of words.old ≡ no_words → OnOk result (AreWordsOf (map (λ name. name.items) names.now)
+        (map (λ b. b.now) buffers.now) (words_of words.new)) }
 {
     let mailmaps = Mailmaps::read(alloc, buffers)?;
     let verification = Verification::new(alloc, &mailmaps)?;
-    let mut words = Words::new(alloc);
-    push_findings(alloc, &mut words, names, verification.findings())?;
-    Ok(words)
+    push_findings(alloc, words, names, verification.findings())
 }
 
-fn words_beside(
+fn push_beside(
     alloc: Global,
+    words: &mut Words,
     lengths: &[Lengths],
     names: &[u8],
     texts: &[u8],
     file: &[u8],
     contacts: &[u8],
-) -> Result<Words, AllocError>
-    ensures { IfOk result (λ w. AreWordsBeside (names_in lengths.now names.now) (texts_in lengths.now texts.now)
-        file.now contacts.now (words_of w)) }
+) -> Result<(), AllocError>
+    ensures { words_of words.old ≡ no_words → OnOk result
+        (AreWordsBeside (names_in lengths.now names.now) (texts_in lengths.now texts.now) file.now contacts.now
+        (words_of words.new)) }
 {
     let names = names_of(alloc, lengths, names)?;
     let buffers = texts_of(alloc, lengths, texts)?;
     let counted = counted_in(alloc, contacts)?;
-    words_counted(alloc, names.as_slice(), buffers.as_slice(), file, &counted)
+    push_counted(
+        alloc,
+        words,
+        names.as_slice(),
+        buffers.as_slice(),
+        file,
+        &counted,
+    )
 }
 
-fn words_counted(
+fn push_counted(
     alloc: Global,
+    words: &mut Words,
     names: &[Vec<u8>],
     buffers: &[&[u8]],
     file: &[u8],
     counted: &Contacts,
-) -> Result<Words, AllocError>
-    ensures { (contacts : Text) → AreContactsOf (whole_lines contacts) counted.now
-        → IfOk result (λ w. AreWordsBeside (map (λ name. name.items) names.now) (map (λ b. b.now) buffers.now)
-        file.now contacts (words_of w)) }
+) -> Result<(), AllocError>
+    ensures { (contacts : Text) → AreContactsOf (whole_lines contacts) counted.now → words_of words.old ≡ no_words
+        → OnOk result (AreWordsBeside (map (λ name. name.items) names.now) (map (λ b. b.now) buffers.now) file.now contacts
+        (words_of words.new)) }
 {
     let findings = contact_findings(alloc, buffers, counted)?;
     let mailmaps = Mailmaps::read(alloc, buffers)?;
     let unneeded = unneeded_by(alloc, &mailmaps, counted)?;
-    words_with(
+    push_all(
         alloc,
+        words,
         names,
         file,
         &mailmaps,
@@ -190,25 +208,44 @@ fn words_counted(
     )
 }
 
-fn words_with(
+fn push_all(
     alloc: Global,
+    words: &mut Words,
     names: &[Vec<u8>],
     file: &[u8],
     mailmaps: &Mailmaps<'_, '_>,
     unneeded: &[Position],
     findings: &[ContactFinding<'_>],
-) -> Result<Words, AllocError>
+) -> Result<(), AllocError>
     ensures { (contacts : Text) → AreUnneeded mailmaps.now contacts unneeded.now
         → AreContactFindings mailmaps.now (whole_lines contacts) (map finding_view findings.now)
-        → IfOk result (λ w. AreWordsBeside (map (λ name. name.items) names.now) mailmaps.now file.now contacts
-        (words_of w)) }
+        → words_of words.old ≡ no_words
+        → OnOk result (AreWordsBeside (map (λ name. name.items) names.now) mailmaps.now file.now contacts
+        (words_of words.new)) }
+{
+    push_lines(alloc, words, names, mailmaps, unneeded)?;
+    push_contact_findings(alloc, words, file, findings)
+}
+
+fn push_lines(
+    alloc: Global,
+    words: &mut Words,
+    names: &[Vec<u8>],
+    mailmaps: &Mailmaps<'_, '_>,
+    unneeded: &[Position],
+) -> Result<(), AllocError>
+    ensures { (contacts : Text) → AreUnneeded mailmaps.now contacts unneeded.now
+        → OnOk result ((remarks : List Remark) × AreRemarks mailmaps.now contacts remarks
+        × (words_of words.new ≡ with_notices (words_of words.old)
+        (map (the_remark_notice (map (λ name. name.items) names.now)) remarks))) }
 {
     let verification = Verification::new(alloc, mailmaps)?;
-    let remarks = Remarks::new(verification.findings(), unneeded);
-    let mut words = Words::new(alloc);
-    push_remarks(alloc, &mut words, names, remarks)?;
-    push_contact_findings(alloc, &mut words, file, findings)?;
-    Ok(words)
+    push_remarks(
+        alloc,
+        words,
+        names,
+        Remarks::new(verification.findings(), unneeded),
+    )
 }
 
 fn push_findings(
@@ -322,23 +359,24 @@ fn put_text(texts: &mut Vec<u8>, text: &[u8]) -> Result<Place, AllocError>
     Ok(place)
 }
 
-// Hands words to the caller.
+// Hands words to the caller, if they could be made.
 fn hand_words(
-    made: Result<Words, AllocError>,
+    made: Result<(), AllocError>,
+    words: &Words,
     out: &mut [Noticed],
     out_texts: &mut [u8],
     needed: &mut usize,
     texts_needed: &mut usize,
 ) -> u32
-    ensures ok { IfOk made (λ w. PutsWords (words_of w) out.old out.new out_texts.old out_texts.new needed.new
+    ensures ok { OnOk made (PutsWords (words_of words.now) out.old out.new out_texts.old out_texts.new needed.new
         texts_needed.new result) }
     ensures err { OnErr made (NoWords out.old out.new out_texts.old out_texts.new needed.new texts_needed.new result) }
 {
-    let Ok(words) = made else {
+    if made.is_err() {
         *needed = 0;
         *texts_needed = 0;
         return OUT_OF_MEMORY;
-    };
+    }
     let (count, len) = (words.listed.len(), words.texts.len());
     *needed = count;
     *texts_needed = len;

@@ -16,7 +16,6 @@ ghost use Rattle.gix_mailmap_c.specs.Several.{AreUnneededOf, IsReportBesideOf, I
 use crate::buffers::hand;
 use bstr::ByteSlice;
 use mailmap_contacts::counter::{ContactCounter, Contacts};
-use mailmap_contacts::unneeded::unneeded_by;
 use mailmap_findings::remarks::Remarks;
 use mailmap_findings::verify::{Mailmaps, Verification};
 use mailmap_findings::{needs, verify};
@@ -27,6 +26,7 @@ use mailmap_report::suggested::SuggestionPieces;
 use mailmap_suggestions::findings::{ContactFinding, contact_findings};
 use mailmap_suggestions::suggestions::suggest;
 use mailmap_suggestions::text::feed_after;
+use mailmap_suggestions::unneeded::unneeded_by;
 use std::alloc::{AllocError, Global};
 
 pub(crate) type Made<T> = Result<Vec<T>, AllocError>;
@@ -91,12 +91,14 @@ fn report_in(alloc: Global, settings: &Settings, names: &[Vec<u8>], buffers: &[&
 {
     let mailmaps = Mailmaps::read(alloc, buffers)?;
     let verification = Verification::new(alloc, &mailmaps)?;
-    let pieces = FindingPieces {
-        settings,
-        names,
-        findings: verification.findings(),
-    };
-    pieces::text_of(alloc, pieces)
+    pieces::text_of(
+        alloc,
+        FindingPieces {
+            settings,
+            names,
+            findings: verification.findings(),
+        },
+    )
 }
 
 /// Writes each finding in several mailmaps and in contacts, as [`PiecesBeside`] has them. `file` is the name of the
@@ -182,16 +184,16 @@ fn report_remarks(
         mailmaps.now file.now contacts text.items) }
 {
     let verification = Verification::new(alloc, mailmaps)?;
-    let remarks = Remarks::new(verification.findings(), unneeded);
-    let findings = findings.iter();
-    let pieces = PiecesBeside {
-        settings,
-        names,
-        file,
-        remarks,
-        findings,
-    };
-    pieces::text_of(alloc, pieces)
+    pieces::text_of(
+        alloc,
+        PiecesBeside {
+            settings,
+            names,
+            file,
+            remarks: Remarks::new(verification.findings(), unneeded),
+            findings: findings.iter(),
+        },
+    )
 }
 
 fn settings_in(alloc: Global, format: u32) -> Settings
@@ -330,11 +332,13 @@ fn suggested_by(alloc: Global, buffers: &[&[u8]], counted: &Contacts) -> Made<u8
         → IfOk result (λ text. IsSuggested (map (λ b. b.now) buffers.now) lines text.items) }
 {
     let suggestions = suggest(alloc, buffers, counted)?;
-    let pieces = SuggestionPieces {
-        start: feed_after(buffers),
-        suggestions: suggestions.as_slice().iter(),
-    };
-    pieces::text_of(alloc, pieces)
+    pieces::text_of(
+        alloc,
+        SuggestionPieces {
+            start: feed_after(buffers),
+            suggestions: suggestions.as_slice().iter(),
+        },
+    )
 }
 
 pub(crate) fn counted_in(alloc: Global, contacts: &[u8]) -> Result<Contacts, AllocError>

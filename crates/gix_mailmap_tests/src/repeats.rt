@@ -1,6 +1,6 @@
 //! The cache of answers. Contracts say that it holds no wrong answer, but not which lines it keeps.
+use mailmap_grammar::cache::{AnswerCache, ROWS};
 use mailmap_grammar::hashing::hash_of;
-use mailmap_snapshot::cache::{AnswerCache, ROWS};
 use std::alloc::AllocError;
 
 const LINE: &[u8] = b"jane <JANE@x>\n";

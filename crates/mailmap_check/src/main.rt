@@ -9,7 +9,9 @@
 //! A failure prints one line on standard error, and the exit status is 2.
 #![tactic(auto)]
 
-use check_command::task::{perform, task_of};
+pub mod run;
+pub mod task;
+
 use command_line::VERSION;
 use command_line::arguments::arguments;
 use command_line::failure::Failure;
@@ -17,6 +19,7 @@ use command_line::files::System;
 use command_line::outcome::{Outcome, exit_code};
 use command_line::streams::write_all;
 use std::process::ExitCode;
+use task::{perform, task_of};
 
 const USAGE: &str = "\
 usage: mailmap_check [FILE..]            maps the contacts on standard input with the mailmaps

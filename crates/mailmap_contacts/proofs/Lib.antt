@@ -1,5 +1,8 @@
-pub use Rattle.contact_counter.proofs.Entries
-pub mod Needing
+pub mod Counting
+pub mod Entries
+pub mod LineEnds
 pub mod Propers
-pub use Rattle.contact_counter.proofs.Steps
-pub use Rattle.contact_counter.proofs.Tallied
+pub mod RawContacts
+pub mod Steps
+pub mod Sums
+pub mod Tallied

@@ -3,8 +3,8 @@ use Rattle.std.proofs.Common.{◌≡◌, ◌∙◌, ◌+◌, ◌<◌, ℕ, get_o
 use Rattle.mailmap_contacts.specs.Answers.{tally_of}
 use Rattle.mailmap_contacts.specs.Contacts.{Tally}
 use Rattle.mailmap_contacts.specs.Proper.{better, preferred, preferred_of, proper}
-use Rattle.contact_counter.proofs.Steps.{mapped_more}
-use Rattle.contact_counter.specs.declared.tallies.Tally.{Tally as TheTally}
+use Rattle.mailmap_contacts.proofs.Steps.{mapped_more}
+use Rattle.mailmap_contacts.specs.declared.answers.Tally.{Tally as TheTally}
 
 preferred-push : (best : Tally) (ts : List Tally) (t : Tally) → preferred_of best (ts ++ t ∷ []) ≡ preferred (preferred_of best ts) t
 preferred-push best [] t = refl

@@ -3,10 +3,10 @@ use Rattle.std.specs.Borrow.{Bor}
 use Rattle.std.specs.Cmp.Lexicographic.{slice_cmp}
 use Rattle.std.specs.Ordering.{nat_cmp, on}
 use Rattle.std.specs.declared.cmp.Ordering.{Ordering}
-pub use Rattle.contact_counter.specs.Counts.{answer_key, answer_key_tally, tally_of}
-use Rattle.contact_counter.specs.Contacts.{Tally}
+pub use Rattle.mailmap_contacts.specs.Counts.{answer_key, answer_key_tally, tally_of}
+use Rattle.mailmap_contacts.specs.Contacts.{Tally}
 use Rattle.mailmap_contacts.specs.Folded.{folded_text}
-use Rattle.contact_counter.specs.declared.tallies.Tally.{Tally as TheTally}
+use Rattle.mailmap_contacts.specs.declared.answers.Tally.{Tally as TheTally}
 use Rattle.mailmap_contacts.specs.declared.folded.Folded.{Folded}
 
 abbrev pub tally_at : Bor TheTally → Tally

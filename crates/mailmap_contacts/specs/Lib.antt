@@ -1,5 +1,5 @@
 pub mod Answers
-pub use Rattle.contact_counter.specs.Contacts
-pub use Rattle.contact_counter.specs.Counts
+pub mod Contacts
+pub mod Counts
 pub mod Folded
 pub mod Proper

@@ -1,8 +1,8 @@
 -- The proper one of several answers.
 use Rattle.std.specs.Prelude.{◌==◌, ◌&&◌, ◌||◌, Bool, true, false, if◌then◌else◌, List, [], ◌∷◌, Option, None, Some, nat_lt}
-use Rattle.contact_counter.specs.Contacts.{Tally}
-pub use Rattle.contact_counter.specs.Contacts.{has_text}
-use Rattle.contact_counter.specs.declared.occurrences.Occurrences.{Occurrences}
+use Rattle.mailmap_contacts.specs.Contacts.{Tally}
+pub use Rattle.mailmap_contacts.specs.Contacts.{has_text}
+use Rattle.mailmap_contacts.specs.declared.occurrences.Occurrences.{Occurrences}
 
 -- what comes more often than something else; or as often, and first on an earlier line
 abbrev pub comes_more : Occurrences → Occurrences → Bool

@@ -6,7 +6,7 @@ ghost use Rattle.mailmap_contacts.specs.Proper as spec;
 ghost use Rattle.mailmap_contacts.specs.Proper.{better};
 
 use crate::answers::Tally;
-use contact_counter::occurrences::Occurrences;
+use crate::occurrences::Occurrences;
 
 // Whether the proper one so far, if there is one, stays so beside another one.
 fn is_kept(best: Option<&Tally<'_>>, other: &Tally<'_>) -> bool

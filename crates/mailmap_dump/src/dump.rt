@@ -1,8 +1,9 @@
 //! The dumps, one line per item.
 
-use anyhow::{Context, Result};
+use anyhow::Context;
 use bstr::ByteSlice;
 use mailmap_entries::Entry;
+use mailmap_grammar::lines::Error;
 use mailmap_grammar::parse;
 use mailmap_snapshot::Snapshot;
 use mailmap_snapshot::actor::SignatureRef;
@@ -11,13 +12,22 @@ use std::fmt;
 
 /// Dumps the entry or the fault of each line of the files.
 pub fn items(out: &mut String, files: &[Vec<u8>]) -> Result<(), AllocError> {
-    for item in files.iter().flat_map(|file| parse(file)) {
-        match item {
-            Ok(entry) => put_entry(out, &entry)?,
-            Err(fault) => writeln!(out, "F {fault} {}", Hex(Some(fault.input())))?,
+    for file in files {
+        for item in parse(file) {
+            put_item(out, item)?;
         }
     }
     Ok(())
+}
+
+fn put_item(out: &mut String, item: Result<Entry<'_>, Error<'_>>) -> Result<(), AllocError> {
+    match item {
+        Ok(entry) => put_entry(out, &entry),
+        Err(fault) => {
+            write!(out, "F {fault}")?;
+            put_texts(out, &[Some(fault.input())])
+        }
+    }
 }
 
 /// Dumps the entries of a snapshot.
@@ -29,18 +39,34 @@ pub fn entries(out: &mut String, snapshot: &Snapshot) -> Result<(), AllocError> 
 }
 
 fn put_entry(out: &mut String, entry: &Entry<'_>) -> Result<(), AllocError> {
-    writeln!(
+    out.push('E')?;
+    put_texts(
         out,
-        "E {} {} {} {}",
-        Hex(entry.new_name()),
-        Hex(entry.new_email()),
-        Hex(entry.old_name()),
-        Hex(Some(entry.old_email()))
+        &[
+            entry.new_name(),
+            entry.new_email(),
+            entry.old_name(),
+            Some(entry.old_email()),
+        ],
     )
 }
 
+// Ends a line with these texts, each after a space.
+fn put_texts(out: &mut String, texts: &[Option<&[u8]>]) -> Result<(), AllocError> {
+    for text in texts {
+        write!(out, " {}", Hex(*text))?;
+    }
+    out.push('\n')?;
+    Ok(())
+}
+
 /// Dumps the answer for each line, which has a name and an email in hex.
-pub fn answers(out: &mut String, alloc: Global, snapshot: &Snapshot, pairs: &[u8]) -> Result<()> {
+pub fn answers(
+    out: &mut String,
+    alloc: Global,
+    snapshot: &Snapshot,
+    pairs: &[u8],
+) -> anyhow::Result<()> {
     for line in pairs.lines() {
         let mut fields = line.fields();
         let name = text(alloc, fields.next())?;
@@ -61,14 +87,16 @@ fn put_answer(
         email,
         time: "",
     };
-    match snapshot.try_resolve_ref(signature) {
-        Some(found) => writeln!(out, "{} {}", Hex(found.name), Hex(found.email)),
-        None => writeln!(out, "- -"),
-    }
+    let (name, email) = match snapshot.try_resolve_ref(signature) {
+        Some(found) => (found.name, found.email),
+        None => (None, None),
+    };
+    write!(out, "{}", Hex(name))?;
+    put_texts(out, &[email])
 }
 
 // Decodes a field; `.` is empty.
-fn text(alloc: Global, field: Option<&[u8]>) -> Result<Vec<u8>> {
+fn text(alloc: Global, field: Option<&[u8]>) -> anyhow::Result<Vec<u8>> {
     match field.context("a name and an email are wanted")? {
         b"." => Ok(Vec::new(alloc)),
         digits => Ok(hex::decode(alloc, digits)?),

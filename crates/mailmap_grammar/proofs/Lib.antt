@@ -9,3 +9,5 @@ pub mod WhiteEnds
 pub mod Skipped
 pub mod LineFeeds
 pub mod LineParts
+pub mod WritableLines
+pub mod WrittenLine

@@ -1,8 +1,9 @@
 -- The text that a snapshot is written as, and the entries that a line of a mailmap can hold.
-use Rattle.std.specs.Prelude.{◌≡◌, ◌≢◌, List, [], ◌∷◌, ◌++◌, Option, Some, None, IsSome, IfSome, IfNone, OnSome}
+use Rattle.std.specs.Prelude.{◌≡◌, ◌≢◌, List, [], ◌∷◌, ◌++◌, Option, Some, None, IsSome, IfSome, IfNone, OnSome, unwrap_or}
 use Rattle.std.specs.List.{flat_map}
 use Rattle.mailmap_entries.specs.Entries.{Mapping}
 use Rattle.mailmap_entries.specs.Folding.{Text}
+use Rattle.mailmap_entries.specs.Semantics.{Fields}
 use Rattle.mailmap_grammar.specs.Lines.{HoldsNo}
 use Rattle.mailmap_grammar.specs.Trimming.{trim}
 
@@ -48,3 +49,12 @@ canonical_line e = 32 ∷ (name_part e.new_name ++ email_part e.new_email ++ nam
 
 abbrev pub canonical_text : List Mapping → Text
 canonical_text es = flat_map canonical_line es
+
+-- a name and an email as a contact line; without the space if the name is empty
+abbrev pub contact_line : Text → Text → Text
+contact_line [] email = 60 ∷ email ++ 62 ∷ []
+contact_line (b ∷ name) email = (b ∷ name) ++ 32 ∷ 60 ∷ email ++ 62 ∷ []
+
+-- a contact with the fields that are there in place of its own
+abbrev pub contact_with : Fields → Text → Text → Text
+contact_with f name email = contact_line (unwrap_or f.name name) (unwrap_or f.email email)

@@ -5,3 +5,4 @@ pub mod Trimming
 pub mod Lines
 pub mod LineParts
 pub mod CanonicalText
+pub mod CachedLines

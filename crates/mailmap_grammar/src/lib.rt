@@ -2,6 +2,7 @@
 //! public parts.
 #![tactic(auto)]
 
+pub mod cache;
 pub mod contacts;
 pub mod hashing;
 pub mod laws;

@@ -1,9 +1,10 @@
-//! Writes entries as lines that [parse](crate::parse()) as the same entries again, if a line can hold them.
+//! Writes contacts, and entries as lines that [parse](crate::parse()) as the same entries again, if a line can hold them.
 ghost use Rattle.std.specs.Prelude.{◌≡◌, ◌≢◌, ◌++◌, ◌∷◌, ◌+◌, ◌≤◌, ◌^◌, ◌↔◌, [], length, IsTrue, OnOk, IfSome, IfNone};
 ghost use Rattle.std.specs.Prelude.{MatchOption, option_map, unwrap_or};
+ghost use Rattle.std.specs.Io.{StartsWith};
 ghost use Rattle.std.specs.Option.{option_copied};
 ghost use Rattle.mailmap_grammar.specs.CanonicalText.{IsWritable, IsWritableName, IsWritableEmail, name_part};
-ghost use Rattle.mailmap_grammar.specs.CanonicalText.{bracketed_email, email_part, canonical_line};
+ghost use Rattle.mailmap_grammar.specs.CanonicalText.{bracketed_email, email_part, canonical_line, contact_line};
 ghost use Rattle.mailmap_entries.specs.Entries.{mapping_of};
 ghost use Rattle.mailmap_grammar.specs.Lines.{HoldsNo};
 ghost use Rattle.mailmap_grammar.specs.Trimming.{trim as spec_trim};
@@ -150,5 +151,23 @@ pub fn push_email(out: &mut Vec<u8>, email: &[u8]) -> Result<(), AllocError>
     out.push(b'<')?;
     out.extend_from_slice(email)?;
     out.push(b'>')?;
+    Ok(())
+}
+
+/// Appends a contact in the form of a line: the name and a space, unless the name is empty, and the email in brackets.
+///
+/// The name `Jane` and the email `j@x` are `Jane <j@x>`. If memory runs out, a part of it may have been appended.
+#[inline]
+pub fn push_contact(text: &mut Vec<u8>, name: &[u8], email: &[u8]) -> Result<(), AllocError>
+    ensures ok { OnOk result (text.new.items ≡ text.old.items ++ contact_line name.now email.now) }
+    ensures front { StartsWith text.new.items text.old.items }
+{
+    text.extend_from_slice(name)?;
+    if !name.is_empty() {
+        text.push(b' ')?;
+    }
+    text.push(b'<')?;
+    text.extend_from_slice(email)?;
+    text.push(b'>')?;
     Ok(())
 }

@@ -1,7 +1,7 @@
 -- Explanations of contacts, line by line: what each maps to, and the mailmap lines behind it.
 use Rattle.std.specs.Prelude.{◌≡◌, List, [], ◌∷◌, ◌++◌, Option, None, Some, codes}
 use Rattle.std.specs.List.{All, flat_map}
-use Rattle.mailmap_snapshot.specs.Contacts.{contact_line, contact_with}
+use Rattle.mailmap_grammar.specs.CanonicalText.{contact_line, contact_with}
 use Rattle.mailmap_findings.specs.Explanations.{origin_positions}
 use Rattle.mailmap_entries.specs.Folding.{Text}
 use Rattle.mailmap_redundancy.specs.Origins.{Origins, origins}
@@ -11,7 +11,7 @@ use Rattle.command_line.specs.Answering.{AnswersAll}
 use Rattle.mailmap_findings.specs.Positions.{located_lines, located, whole_lines}
 use Rattle.mailmap_redundancy.specs.Redundancy.{AreEffective, LocatedMapping, entries}
 use Rattle.mailmap_grammar.specs.Trimming.{trim}
-use Rattle.mailmap_snapshot.specs.CachedLines.{CachedLine}
+use Rattle.mailmap_grammar.specs.CachedLines.{CachedLine}
 use Rattle.mailmap_report.specs.Report.{positions_text, shown_line}
 
 -- ---- one line

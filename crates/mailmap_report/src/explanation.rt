@@ -10,10 +10,10 @@ use crate::pieces::shown_line;
 use crate::places::push_positions;
 use mailmap_findings::explain::Explanations;
 use mailmap_findings::verify::Mailmaps;
+use mailmap_grammar::cache::AnswerCache;
 use mailmap_grammar::contacts::{ParsedContact, parse_name_and_email, trim};
 use mailmap_grammar::hashing::hash_of;
-use mailmap_snapshot::cache::AnswerCache;
-use mailmap_snapshot::check::push_contact;
+use mailmap_grammar::writing::push_contact;
 use std::alloc::{AllocError, Global};
 use std::marker::Model;
 

@@ -1,12 +1,16 @@
 //! Counts contacts using mailmaps, as `git shortlog -s` counts commits by author.
 //!
 //! `mailmap_shortlog MAILMAP..` counts the contacts on standard input by the names that the mailmaps map them to. With
-//! `-e` it counts by names and emails, and with `-n` the greatest count comes first. `shortlog_command::task` parses
-//! the arguments.
+//! `-e` it counts by names and emails, and with `-n` the greatest count comes first. The module `task` parses the
+//! arguments.
 //!
 //! A failure prints a line on standard error, unless nobody reads the output any more, and the exit status is 2. Lines
 //! that weren't counted are no failure: a line on standard error says how many.
 #![tactic(auto)]
+
+pub mod answer;
+pub mod shortlog;
+pub mod task;
 
 use command_line::arguments::arguments;
 use command_line::failure::Failure;
@@ -14,11 +18,11 @@ use command_line::files::{DEFAULT_PATH, System};
 use command_line::messages::{self, failure_line, misuse_lines};
 use command_line::piped::Piped;
 use command_line::streams::write_all;
-use shortlog_command::task::{Mode, Skipped, Task, UnknownOption, perform, skipped_line, task_of};
 use std::alloc::{AllocError, Global};
 use std::io::IsTerminal;
 use std::process::ExitCode;
 use std::slice;
+use task::{Mode, Skipped, Task, UnknownOption, perform, skipped_line, task_of};
 
 const PROGRAM: &[u8] = b"mailmap_shortlog";
 

@@ -1,7 +1,5 @@
 pub mod Resolved
 pub mod Sources
-pub mod WritableLines
-pub mod WrittenLine
 pub mod Dividers
 pub mod ContactLines
 pub mod Streams

@@ -15,7 +15,7 @@ use Rattle.mailmap_grammar.specs.LineParts.{AnswersFront, AreInOrder}
 use Rattle.mailmap_grammar.specs.Lines.{HoldsNo, contact_in}
 use Rattle.mailmap_grammar.proofs.LineParts.{ended_part, front_all, front_more, front_none, unended_part, more_answered, slices}
 use Rattle.mailmap_snapshot.specs.Contacts.{answer, answers, contact_answer, contact_lines}
-use Rattle.mailmap_snapshot.specs.CachedLines.{CachedLine, Inserts}
+use Rattle.mailmap_grammar.specs.CachedLines.{CachedLine, Inserts}
 use Rattle.std.proofs.lemmas.List.Elements.{All-push, All-same, All-set}
 use Rattle.mailmap_snapshot.specs.Streams.{AreCachedAnswers, AnswersParts, HasTaken}
 use Rattle.mailmap_snapshot.proofs.ContactLines.{contact_lines-append, contact_lines-nil, contact_lines-open}

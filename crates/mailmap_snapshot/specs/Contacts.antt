@@ -1,10 +1,11 @@
 -- Answers to lines of contacts.
-use Rattle.std.specs.Prelude.{◌≡◌, ◌≢◌, ◌⊎◌, List, [], ◌∷◌, ◌++◌, map, unwrap_or}
+use Rattle.std.specs.Prelude.{◌≡◌, ◌≢◌, ◌⊎◌, List, [], ◌∷◌, ◌++◌, map}
 use Rattle.std.specs.List.{AllByRecursion, AllZip, flat_map}
 use Rattle.bstr.specs.Text.{lines_of, without_terminator}
 use Rattle.mailmap_entries.specs.Entries.{Mapping}
 use Rattle.mailmap_entries.specs.Folding.{Text}
 use Rattle.mailmap_entries.specs.Semantics.{Fields, fields_for}
+pub use Rattle.mailmap_grammar.specs.CanonicalText.{contact_line, contact_with}
 use Rattle.mailmap_grammar.specs.Lines.{ParsedContact, Absent, Unclosed, Closed, contact_in, mappings_of, with_line_feeds, HoldsNo}
 
 -- the lines of a text: each ends before its line feed, and before one carriage return directly before that; the last
@@ -25,15 +26,6 @@ pub record AreLines (s : Text) (ls : List Text) : Type 0 where
   pub no_feed : AllByRecursion (HoldsNo 10) ended
   pub whole : ((s ≡ with_line_feeds ended) × (ls ≡ bare))
       ⊎ ((last : Text) × (last ≢ []) × HoldsNo 10 last × (s ≡ with_line_feeds ended ++ last) × (ls ≡ bare ++ last ∷ []))
-
--- a name and an email as a contact line; without the space if the name is empty
-abbrev pub contact_line : Text → Text → Text
-contact_line [] email = 60 ∷ email ++ 62 ∷ []
-contact_line (b ∷ name) email = (b ∷ name) ++ 32 ∷ 60 ∷ email ++ 62 ∷ []
-
--- a contact with the fields that are there in place of its own
-abbrev pub contact_with : Fields → Text → Text → Text
-contact_with f name email = contact_line (unwrap_or f.name name) (unwrap_or f.email email)
 
 -- the answer to a line that starts with this contact, given the fields for contacts; a line without a contact is its own
 -- answer

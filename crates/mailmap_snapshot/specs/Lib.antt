@@ -13,7 +13,6 @@ pub use Rattle.mailmap_entries.specs.Listings
 pub mod Answers
 pub mod Writing
 pub mod Sources
-pub mod CachedLines
 pub mod Contacts
 pub mod Parts
 pub mod Streams

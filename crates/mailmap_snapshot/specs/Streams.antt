@@ -3,7 +3,7 @@ use Rattle.std.specs.Prelude.{◌≡◌, ◌<◌, ◌≤◌, ℕ, List, [], ◌�
 use Rattle.std.specs.List.{All}
 use Rattle.mailmap_entries.specs.Entries.{Mapping}
 use Rattle.mailmap_entries.specs.Folding.{Text}
-use Rattle.mailmap_snapshot.specs.CachedLines.{CachedLine}
+use Rattle.mailmap_grammar.specs.CachedLines.{CachedLine}
 use Rattle.mailmap_grammar.specs.LineParts.{AnswersFront, HasAnswered}
 use Rattle.mailmap_snapshot.specs.Contacts.{answers}
 

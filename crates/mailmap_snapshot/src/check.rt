@@ -2,7 +2,7 @@
 ghost use Rattle.std.specs.Prelude.{◌≡◌, ◌++◌, ◌↔◌, [], map, unwrap_or, IfOk, IsTrue, OnErr, OnOk};
 ghost use Rattle.std.specs.Io.{StartsWith};
 ghost use Rattle.std.specs.List.{flat_map};
-ghost use Rattle.mailmap_snapshot.specs.Contacts.{answer, answers, answers_by, contact_line};
+ghost use Rattle.mailmap_snapshot.specs.Contacts.{answer, answers, answers_by};
 ghost use Rattle.mailmap_entries.specs.Semantics.{IsNormal, fields_for};
 ghost use Rattle.mailmap_grammar.specs.Lines.{mappings_of};
 ghost use Rattle.mailmap_snapshot.specs.Parts.{IsDividerLine, IsSplit};
@@ -14,6 +14,7 @@ use crate::snapshot::Snapshot;
 use bstr::ByteSlice;
 use mailmap_grammar::contacts::{ParsedContact, contact_of};
 use mailmap_grammar::parse_ignore_errors;
+pub use mailmap_grammar::writing::push_contact;
 use std::alloc::{AllocError, Global};
 pub use stream::{ContactStream, Taken};
 
@@ -93,23 +94,6 @@ pub fn resolved<'a>(snapshot: &'a Snapshot, name: &'a [u8], email: &'a [u8]) -> 
         Some(found) => (found.name.unwrap_or(name), found.email.unwrap_or(email)),
         None => (name, email),
     }
-}
-
-/// Appends a contact in the form of a line: the name and a space, unless the name is empty, and the email in brackets.
-///
-/// The name `Jane` and the email `j@x` are `Jane <j@x>`. If memory runs out, a part of it may have been appended.
-pub fn push_contact(text: &mut Vec<u8>, name: &[u8], email: &[u8]) -> Result<(), AllocError>
-    ensures ok { OnOk result (text.new.items ≡ text.old.items ++ contact_line name.now email.now) }
-    ensures front { StartsWith text.new.items text.old.items }
-{
-    text.extend_from_slice(name)?;
-    if !name.is_empty() {
-        text.push(b' ')?;
-    }
-    text.push(b'<')?;
-    text.extend_from_slice(email)?;
-    text.push(b'>')?;
-    Ok(())
 }
 
 /// A mailmap that maps the same as the buffers, one after another. It has one line for each key, in the order of

@@ -1,5 +1,5 @@
 //! The times of commit signatures.
-ghost use Rattle.std.specs.Prelude.{◌+◌, ◌-◌, ◌*◌, ◌∷◌, [], ℤ, pos, MatchOption};
+ghost use Rattle.std.specs.Prelude.{◌+◌, ◌-◌, ◌*◌, ◌∷◌, [], ℤ, MatchOption};
 ghost use Rattle.std.specs.Option.{SomeIff};
 ghost use Rattle.std.specs.Char.{IsAsciiDigit};
 ghost use Rattle.mailmap_snapshot.specs.Times.{AreDigits, decimal_value, SpellsSeconds, SpellsOffset, ParsesTime};
@@ -51,7 +51,7 @@ fn read_offset(text: &str) -> Option<i32>
     let [sign, hour_tens, hour_ones, minute_tens, minute_ones] = text.as_bytes() else {
         return None;
     };
-    let seconds = read_clock(*hour_tens, *hour_ones, *minute_tens, *minute_ones)?;
+    let seconds = read_clock(*hour_tens, *hour_ones, *minute_tens, *minute_ones)? as i32;
     match sign {
         b'+' => Some(seconds),
         b'-' => Some(-seconds),
@@ -60,25 +60,26 @@ fn read_offset(text: &str) -> Option<i32>
 }
 
 /// Parses two digits of hours and two of minutes, and returns seconds.
-fn read_clock(hour_tens: u8, hour_ones: u8, minute_tens: u8, minute_ones: u8) -> Option<i32>
+fn read_clock(hour_tens: u8, hour_ones: u8, minute_tens: u8, minute_ones: u8) -> Option<u32>
     ensures { SomeIff result (AreDigits (hour_tens ∷ hour_ones ∷ []) × AreDigits (minute_tens ∷ minute_ones ∷ []))
-        (pos ((decimal_value (hour_tens ∷ hour_ones ∷ []) * 60
-        + decimal_value (minute_tens ∷ minute_ones ∷ [])) * 60)) }
+        ((decimal_value (hour_tens ∷ hour_ones ∷ []) * 60 + decimal_value (minute_tens ∷ minute_ones ∷ [])) * 60) }
 {
-    Some((read_pair(hour_tens, hour_ones)? * 60 + read_pair(minute_tens, minute_ones)?) * 60)
+    let hours = read_pair(hour_tens, hour_ones)?;
+    let minutes = read_pair(minute_tens, minute_ones)?;
+    Some((hours * 60 + minutes) * 60)
 }
 
-fn read_pair(tens: u8, ones: u8) -> Option<i32>
-    ensures { SomeIff result (AreDigits (tens ∷ ones ∷ [])) (pos (decimal_value (tens ∷ ones ∷ []))) }
+fn read_pair(tens: u8, ones: u8) -> Option<u32>
+    ensures { SomeIff result (AreDigits (tens ∷ ones ∷ [])) (decimal_value (tens ∷ ones ∷ [])) }
 {
     Some(read_digit(tens)? * 10 + read_digit(ones)?)
 }
 
-fn read_digit(byte: u8) -> Option<i32>
-    ensures { SomeIff result (IsAsciiDigit byte) (pos (byte - 48)) }
+fn read_digit(byte: u8) -> Option<u32>
+    ensures { SomeIff result (IsAsciiDigit byte) (byte - 48) }
 {
     match byte {
-        b'0'..=b'9' => Some(i32::from(byte - b'0')),
+        b'0'..=b'9' => Some(u32::from(byte - b'0')),
         _ => None,
     }
 }

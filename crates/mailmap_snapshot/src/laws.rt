@@ -62,7 +62,7 @@ pub fn law_stream()
 
 /// Parsing the text of a normal list, which [`Snapshot::write`](crate::snapshot::Snapshot::write()) writes, gives the
 /// list again, and whatever is built from buffers can be written.
-#[tactic(auto, using(crate::proofs::WrittenLine::mappings_of_canonical_text))]
+#[tactic(auto, using(mailmap_grammar::proofs::WrittenLine::mappings_of_canonical_text))]
 pub fn law_text()
     // the text of a normal list has exactly its entries, if lines can hold them all; entries that map to nothing are in
     // no normal list, and would be a fault as a line
@@ -73,7 +73,7 @@ pub fn law_text()
 {}
 
 /// The text of a normal list has no fault, not even in strict parsing.
-#[tactic(auto, using(crate::proofs::WrittenLine::strict_text))]
+#[tactic(auto, using(mailmap_grammar::proofs::WrittenLine::strict_text))]
 pub fn law_strict()
     // it has exactly the entries of the list, in order
     ensures { (v : List Mapping) → IsNormal v v → All IsWritable v → strict_readings (canonical_text v) ≡ map Ok v }

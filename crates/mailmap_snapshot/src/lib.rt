@@ -2,7 +2,6 @@
 #![tactic(auto)]
 
 pub mod actor;
-pub mod cache;
 pub mod check;
 pub mod date;
 pub mod laws;

@@ -21,7 +21,7 @@ use Rattle.std.specs.BTreeMap.{is_at}
 use Rattle.std.specs.BTreeSet.{contains}
 use Rattle.std.proofs.lemmas.Map.Text.{is_eq-slice_cmp}
 use Rattle.mailmap_contacts.specs.Answers.{folded_cmp, tally_of}
-use Rattle.contact_counter.specs.declared.tallies.Tally.{Tally as TheTally}
+use Rattle.mailmap_contacts.specs.declared.answers.Tally.{Tally as TheTally}
 use Rattle.mailmap_contacts.specs.declared.folded.Folded.{Folded}
 use Rattle.mailmap_suggestions.specs.declared.changes.Changes.{Changes}
 use Rattle.mailmap_suggestions.proofs.Distinct.{◌∈◌, equal_bytes, all_among, all_joined, all_of, at, each, in_filter, kept_part, same_bytes}

@@ -13,8 +13,8 @@ use Rattle.std.proofs.lemmas.List.Quantifiers.{position-Some}
 use Rattle.std.proofs.lemmas.Map.Views.{Contains-from_any}
 use Rattle.std.proofs.lemmas.Option.{get_or_from_slice_get, slice_get-get_or}
 use Rattle.std.proofs.lemmas.Simd.{map-map}
-use Rattle.contact_counter.specs.declared.tallies.Tally.{Tally as TheTally}
-use Rattle.contact_counter.proofs.Entries.{same_is}
+use Rattle.mailmap_contacts.specs.declared.answers.Tally.{Tally as TheTally}
+use Rattle.mailmap_contacts.proofs.Entries.{same_is}
 use Rattle.mailmap_contacts.specs.Answers.{tally_of}
 use Rattle.mailmap_contacts.specs.Contacts.{Contact, Tally, answered, has_text, same_contact, tallied}
 use Rattle.mailmap_contacts.proofs.Steps.{mapped_more}

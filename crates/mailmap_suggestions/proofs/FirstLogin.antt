@@ -11,8 +11,8 @@ use Rattle.std.proofs.lemmas.List.Folds.{flat_map-map, list_any-append, list_any
 use Rattle.std.proofs.lemmas.List.Quantifiers.{position-Some}
 use Rattle.std.proofs.lemmas.List.Sums.{fold_more}
 use Rattle.std.proofs.lemmas.Option.{slice_get-get_or}
-use Rattle.contact_counter.proofs.Entries.{same_is}
-use Rattle.contact_counter.proofs.Tallied.{itself}
+use Rattle.mailmap_contacts.proofs.Entries.{same_is}
+use Rattle.mailmap_contacts.proofs.Tallied.{itself}
 use Rattle.mailmap_contacts.specs.Answers.{tally_of}
 use Rattle.mailmap_contacts.specs.Contacts.{Contact, Tally, answer_to, answered, same_contact, tallied}
 use Rattle.mailmap_entries.specs.Folding.{Text}

@@ -9,7 +9,7 @@ use Rattle.std.proofs.lemmas.List.{get_or_default, get_or-map, take_at, get_or-s
 use Rattle.std.proofs.lemmas.List.Sorted.{Contains-permutation, IsPermutation-map, IsPermutation-sym, ranks_by, sorted_far}
 use Rattle.std.proofs.lemmas.Map.Text.{is_eq-slice_cmp}
 use Rattle.std.proofs.lemmas.Slice.Eq.{bytes_eq-Decides}
-use Rattle.contact_counter.proofs.Steps.{sorted_mapped}
+use Rattle.mailmap_contacts.proofs.Steps.{sorted_mapped}
 use Rattle.mailmap_entries.specs.Folding.{Text, text_cmp}
 use Rattle.mailmap_suggestions.specs.Classes.{AgreesOn, AreClasses}
 use Rattle.mailmap_suggestions.specs.Forests.{AgreesAlong, AgreesBelow, IsForest, IsRoot, IsJoined, Joins, KeepsClasses, link_at, link_of, links_of}

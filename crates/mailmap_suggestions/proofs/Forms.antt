@@ -12,7 +12,7 @@ use Rattle.mailmap_entries.specs.declared.entry.Entry.{Entry}
 use Rattle.mailmap_entries.proofs.Parts.{filter-map, all_map, all_mapped, all_weaker, filter_all, map_alike, filter-filter}
 use Rattle.mailmap_contacts.specs.Answers.{tally_of, tally_at}
 use Rattle.mailmap_contacts.specs.Contacts.{Contact, Tally, answer_to}
-use Rattle.contact_counter.specs.declared.tallies.Tally.{Tally as TheTally}
+use Rattle.mailmap_contacts.specs.declared.answers.Tally.{Tally as TheTally}
 use Rattle.mailmap_contacts.proofs.Steps.{all_filtered}
 use Rattle.mailmap_suggestions.specs.Private.{AreChangesBy, HaveEmail, HaveOneEmail, listed, IsPart, IsPlain, are_enough, contacts_of, tallies_in, grouped, keyed_by, keys, members, text_of}
 use Rattle.mailmap_suggestions.specs.Forms.{Histories, are_answered, distinct, entries_for_email, entries_to, fits, is_answered, long_form, name_unless_empty, named_entries, named_form, needs_own_entry, of_old_email, plain_entries, plus, short_form}

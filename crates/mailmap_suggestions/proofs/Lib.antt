@@ -36,6 +36,7 @@ pub mod Selected
 pub mod Writable
 mod GitText
 mod Needed
+mod Needing
 mod NewNames
 mod NoZero
 mod Overlapping

@@ -7,7 +7,7 @@ use Rattle.std.proofs.lemmas.List.Elements.{All-from_recursion}
 use Rattle.std.proofs.lemmas.List.Folds.{list_any_at}
 use Rattle.std.proofs.lemmas.List.Quantifiers.{position-Some}
 use Rattle.std.proofs.lemmas.Option.{slice_get-get_or}
-use Rattle.contact_counter.proofs.Entries.{same_is}
+use Rattle.mailmap_contacts.proofs.Entries.{same_is}
 use Rattle.mailmap_contacts.specs.Answers.{tally_of}
 use Rattle.mailmap_contacts.specs.Contacts.{Contact, Tally, answer_to, answered, same_contact}
 use Rattle.mailmap_entries.specs.Folding.{Text}

@@ -7,7 +7,7 @@ use Rattle.mailmap_entries.specs.Entries.{Mapping}
 use Rattle.mailmap_entries.specs.Folding.{Text}
 use Rattle.mailmap_entries.proofs.Parts.{all_append, all_head, all_tail}
 use Rattle.mailmap_contacts.specs.Contacts.{contact_on, contacts_from, tally_on}
-use Rattle.contact_counter.specs.declared.occurrences.Occurrences.{Occurrences}
+use Rattle.mailmap_contacts.specs.declared.occurrences.Occurrences.{Occurrences}
 use Rattle.mailmap_grammar.specs.Lines.{Absent, Closed, HoldsNo, IsCut, ParsedContact, Unclosed, cut, is_comment, non_empty, split_once, trimmed_contact}
 use Rattle.mailmap_grammar.specs.Trimming.{trim}
 use Rattle.mailmap_grammar.proofs.Cut.{absent_kind, closed_kind, kind, unclosed_kind}

@@ -7,7 +7,7 @@ use Rattle.std.specs.List.{list_any}
 use Rattle.std.proofs.lemmas.Cmp.{nat_list_eq_equiv}
 use Rattle.std.proofs.lemmas.List.{length-map, length_push, map-append}
 use Rattle.std.proofs.lemmas.Map.Text.{is_eq-slice_cmp}
-use Rattle.contact_counter.specs.declared.tallies.Tally.{Tally as TheTally}
+use Rattle.mailmap_contacts.specs.declared.answers.Tally.{Tally as TheTally}
 use Rattle.mailmap_contacts.specs.Answers.{tally_of}
 use Rattle.mailmap_contacts.specs.Contacts.{Tally}
 use Rattle.mailmap_entries.specs.Folding.{Text}

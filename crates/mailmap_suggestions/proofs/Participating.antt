@@ -13,7 +13,7 @@ use Rattle.std.proofs.lemmas.List.Elements.{All-contains, All-from_recursion, fi
 use Rattle.std.proofs.lemmas.List.Folds.{list_all-map, list_any_more}
 use Rattle.std.proofs.lemmas.Map.Text.{is_eq-slice_cmp}
 use Rattle.std.proofs.lemmas.Simd.{map-map}
-use Rattle.contact_counter.specs.declared.tallies.Tally.{Tally as TheTally}
+use Rattle.mailmap_contacts.specs.declared.answers.Tally.{Tally as TheTally}
 use Rattle.mailmap_contacts.specs.Answers.{answer_key, folded_cmp, tally_of}
 use Rattle.mailmap_contacts.specs.Contacts.{Contact, Tally, answer_to, answered, has_text, same_contact, tallied}
 use Rattle.mailmap_contacts.specs.Folded.{folded_text}

@@ -12,11 +12,11 @@ use Rattle.mailmap_contacts.specs.Answers.{tally_of}
 use Rattle.mailmap_contacts.specs.Contacts.{Contact, Tally, both_seen, contact_cmp, same_contact, seen_where}
 use Rattle.mailmap_contacts.specs.Counts.{SameTallies}
 use Rattle.mailmap_contacts.specs.Proper.{proper}
-use Rattle.contact_counter.specs.declared.occurrences.Occurrences.{Occurrences}
+use Rattle.mailmap_contacts.specs.declared.occurrences.Occurrences.{Occurrences}
 use Rattle.mailmap_contacts.proofs.Entries.{entry_tally, key_cmp, same_by_cmp, same_is}
 use Rattle.mailmap_contacts.proofs.Steps.{mapped_more}
-use Rattle.contact_counter.proofs.Sums.{seen-push}
-use Rattle.contact_counter.specs.declared.tallies.Tally.{Tally as TheTally}
+use Rattle.mailmap_contacts.proofs.Sums.{seen-push}
+use Rattle.mailmap_contacts.specs.declared.answers.Tally.{Tally as TheTally}
 use Rattle.mailmap_suggestions.specs.ContactFindings.{ContactFinding, best_for, findings_for, group_findings, seen_among, seen_answer}
 use Rattle.mailmap_suggestions.specs.Suggestions.{Suggestion}
 

@@ -13,7 +13,7 @@ use Rattle.std.proofs.lemmas.List.{drop_more, length-map, length_push, length-ta
 use Rattle.std.proofs.lemmas.Map.Text.{is_eq-slice_cmp}
 use Rattle.mailmap_contacts.specs.Answers.{folded_cmp, tally_of}
 use Rattle.mailmap_contacts.specs.Contacts.{Contact, Tally, has_text}
-use Rattle.contact_counter.specs.declared.tallies.Tally.{Tally as TheTally}
+use Rattle.mailmap_contacts.specs.declared.answers.Tally.{Tally as TheTally}
 use Rattle.mailmap_contacts.specs.Folded.{folded_text}
 use Rattle.mailmap_contacts.specs.declared.folded.Folded.{Folded}
 use Rattle.mailmap_contacts.proofs.Steps.{all_filtered, mapped_more}

@@ -2,7 +2,7 @@
 use Rattle.std.proofs.Common.{◌≡◌, ◌+◌, ℕ, None, option_to_list, List, [], ◌∷◌, ◌++◌, refl, sym, ◌∙◌, rules, ◌≢◌, Bool, true, false, ap, append-nil, bytes_eq, IfSome, if◌then◌else◌, subst, ⊎_elim, Option, Some, Ok, decimal, append_assoc, arith, codes}
 use Rattle.std.specs.List.{AllByRecursion, flat_map}
 use Rattle.std.specs.Result.{result_ok}
-use Rattle.contact_counter.specs.declared.occurrences.Occurrences.{Occurrences}
+use Rattle.mailmap_contacts.specs.declared.occurrences.Occurrences.{Occurrences}
 use Rattle.mailmap_entries.specs.Entries.{Mapping}
 use Rattle.mailmap_entries.specs.Folding.{Text}
 use Rattle.mailmap_entries.specs.Semantics.{first, accepted, is_accepted}
@@ -10,13 +10,12 @@ use Rattle.mailmap_entries.proofs.Joined.{filter_none}
 use Rattle.mailmap_entries.proofs.Parts.{all_weaker, all_append}
 use Rattle.mailmap_contacts.specs.Contacts.{Contact, Tally, answer_to, contact_on, contacts_from, tally_on}
 use Rattle.mailmap_grammar.proofs.LineFeeds.{pieces-line}
-use Rattle.mailmap_grammar.specs.CanonicalText.{IsWritable, IsWritableEmail, IsWritableName}
+use Rattle.mailmap_grammar.specs.CanonicalText.{IsWritable, IsWritableEmail, IsWritableName, contact_line}
 use Rattle.mailmap_grammar.specs.Lines.{mappings_of, Reading, is_comment, line_reading, reading, reading_by, strict_line_reading, strict_reading, unless_blank, HoldsNo, ParsedContact, mappings_in, pieces, readings_from}
 use Rattle.mailmap_grammar.specs.Trimming.{trim}
-use Rattle.mailmap_snapshot.specs.Contacts.{contact_line}
 use Rattle.mailmap_grammar.proofs.WhiteEnds.{trim-blank_start, HoldsNo-trim, trim-nil}
-use Rattle.mailmap_snapshot.proofs.WritableLines.{ContactFits, contact_fits}
-use Rattle.mailmap_snapshot.proofs.WrittenLine.{body, reading-canonical_line, strict_reading-canonical_line, one_line}
+use Rattle.mailmap_grammar.proofs.WritableLines.{ContactFits, contact_fits}
+use Rattle.mailmap_grammar.proofs.WrittenLine.{body, reading-canonical_line, strict_reading-canonical_line, one_line}
 use Rattle.mailmap_suggestions.specs.Forms.{Histories, git_answer_to, name_unless_empty}
 use Rattle.mailmap_suggestions.specs.GroupEntries.{IsWritableContact}
 use Rattle.mailmap_suggestions.specs.Shortened.{short_contact, shortened}

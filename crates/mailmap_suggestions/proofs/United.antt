@@ -9,7 +9,7 @@ use Rattle.mailmap_entries.specs.Semantics.{spelling}
 use Rattle.mailmap_entries.proofs.Parts.{filter-map, all_weaker, all_map, all_mapped, all_append}
 use Rattle.mailmap_grammar.specs.CanonicalText.{IsWritable}
 use Rattle.mailmap_grammar.specs.Lines.{mappings_of}
-use Rattle.mailmap_snapshot.proofs.WritableLines.{all_read}
+use Rattle.mailmap_grammar.proofs.WritableLines.{all_read}
 use Rattle.mailmap_contacts.specs.Contacts.{Contact, Tally, answer_to, answered, has_text, tallied}
 use Rattle.mailmap_contacts.proofs.Tallied.{each_tallied, each_untallied}
 use Rattle.mailmap_suggestions.specs.Counted.{counted_answers, by_frequency}

@@ -6,10 +6,9 @@ use Rattle.std.specs.List.Sorted.{IsPermutation, IsSortedByKey}
 use Rattle.std.specs.Option.{option_map}
 use Rattle.std.specs.Ordering.{nat_cmp, ordering_then}
 use Rattle.std.specs.declared.cmp.Ordering.{Ordering}
-use Rattle.mailmap_contacts.specs.Contacts.{Contact, Tally, answered, contacts_from, no_contacts_from, same_contact}
-use Rattle.mailmap_contacts.specs.Contacts.{seen_where, tallied}
+use Rattle.mailmap_contacts.specs.Contacts.{Contact, Tally, answered, contacts_from, no_contacts_from, same_contact, seen_where, tallied}
 use Rattle.mailmap_contacts.specs.Proper.{proper}
-use Rattle.contact_counter.specs.declared.occurrences.Occurrences.{Occurrences}
+use Rattle.mailmap_contacts.specs.declared.occurrences.Occurrences.{Occurrences}
 use Rattle.mailmap_entries.specs.Folding.{Text}
 use Rattle.mailmap_suggestions.specs.Forms.{Histories}
 use Rattle.mailmap_suggestions.specs.GitContacts.{git_answers_otherwise}

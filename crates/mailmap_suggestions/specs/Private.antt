@@ -8,7 +8,7 @@ use Rattle.mailmap_entries.specs.Folding.{Text, folded}
 use Rattle.mailmap_contacts.specs.Answers.{folded_cmp, tally_of}
 use Rattle.mailmap_contacts.specs.Contacts.{Contact, Tally, answer_to, same_contact}
 use Rattle.mailmap_contacts.specs.Folded.{folded_text}
-use Rattle.contact_counter.specs.declared.tallies.Tally.{Tally as TheTally}
+use Rattle.mailmap_contacts.specs.declared.answers.Tally.{Tally as TheTally}
 use Rattle.mailmap_contacts.specs.declared.folded.Folded.{Folded}
 use Rattle.mailmap_suggestions.specs.GroupEntries.{contacts}
 use Rattle.mailmap_suggestions.specs.Keys.{key_cmp, key_text}

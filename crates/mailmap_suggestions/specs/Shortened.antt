@@ -2,7 +2,7 @@
 use Rattle.std.specs.Prelude.{ℕ, ◌-◌, nat_lt, Bool, ◌&&◌, if◌then◌else◌, is_some, length, take, drop, ◌++◌, codes}
 use Rattle.bstr.specs.Utf8.{decoded}
 use Rattle.mailmap_entries.specs.Folding.{Text}
-use Rattle.mailmap_snapshot.specs.Contacts.{contact_line}
+use Rattle.mailmap_grammar.specs.CanonicalText.{contact_line}
 
 -- a character begins so many bytes before a limit, and goes beyond it
 unfoldable pub crosses : ℕ → ℕ → Text → Bool

@@ -22,3 +22,4 @@ mod shared;
 pub mod shortened;
 pub mod suggestions;
 pub mod text;
+pub mod unneeded;

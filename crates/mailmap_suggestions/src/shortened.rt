@@ -5,7 +5,7 @@ ghost use Rattle.mailmap_suggestions.specs.Shortened.{crosses, front_len, short_
 ghost use Rattle.mailmap_suggestions.specs.Shortened.{shortened_to};
 
 use bstr::decode_utf8;
-use mailmap_snapshot::check::push_contact;
+use mailmap_grammar::writing::push_contact;
 use std::alloc::{AllocError, Global};
 use std::borrow::CowSlice;
 

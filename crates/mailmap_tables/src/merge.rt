@@ -3,11 +3,11 @@ ghost use Rattle.std.specs.Prelude.{◌≡◌, ◌≢◌, ◌++◌, ◌∷◌, [
 ghost use Rattle.std.specs.Prelude.{◌<◌, ◌≤◌, drop, take, true};
 ghost use Rattle.std.specs.Iterator.{IsFinite, Drains, Yields};
 ghost use Rattle.mailmap_entries.specs.Alike.{Alike};
-ghost use Rattle.mailmap_entries.specs.Entries.{mapping_of};
+ghost use Rattle.mailmap_entries.specs.Entries.{Mapping, mapping_of};
 ghost use Rattle.mailmap_entries.specs.Folding.{Text};
 ghost use Rattle.mailmap_entries.specs.declared.entry.Entry.{Entry as Item};
 ghost use Rattle.mailmap_entries.specs.Semantics.{IsNormal, accepted, is_accepted};
-ghost use Rattle.mailmap_batches.specs.Batches.{mapping_at};
+ghost use Rattle.mailmap_batches.specs.Batches.{IsSorted, indexed_mapping, mapping_at};
 ghost use Rattle.mailmap_tables.specs.Groups.{AreGroups, listing};
 ghost use Rattle.mailmap_tables.specs.Put.{AreAccepted, Represent, with_old_email};
 
@@ -156,22 +156,35 @@ fn listed(alloc: Global, tables: &Tables) -> Result<Vec<Entry<'_>>, AllocError>
     Iter::new(tables.view()).collect(alloc)
 }
 
-// Tables of these entries. The batch is freed while its entries are put, since the tables take as much memory.
+// Tables of these entries.
 fn built(alloc: Global, entries: &[Entry<'_>]) -> Result<Tables, AllocError>
     requires { AreAccepted (map mapping_of entries.now) }
     ensures { IfOk result (λ made. Represent (map mapping_of entries.now) made.groups) }
 {
     let mut batch = sorted(alloc, entries)?;
-    let mut tables = Tables::with_capacity(alloc, batch.len(), texts_len(entries))?;
+    let mut tables = Tables::new(alloc);
+    tables.reserve(batch.len(), texts_len(entries))?;
+    put_groups(&mut tables, &mut batch)?;
+    Ok(tables.as_newly_built())
+}
+
+// Puts the entries of a sorted batch into empty tables, email by email. The batch is freed meanwhile, since the tables
+// take as much memory.
+fn put_groups(tables: &mut Tables, batch: &mut Vec<IndexedEntry<'_, '_>>) -> Result<(), AllocError>
+    requires empty { tables.old.groups ≡ [] }
+    requires sorted { (xs : List Mapping) × AreAccepted xs × IsSorted xs (map indexed_mapping batch.old.items) }
+    ensures { (xs : List Mapping) → AreAccepted xs → IsSorted xs (map indexed_mapping batch.old.items)
+        → OnOk result (Represent xs tables.new.groups) }
+{
     let mut start = 0;
     while start < batch.len() {
         let left = &batch[start..];
         let len = email_group_len(left);
         let group = &left[..len];
-        put_group(&mut tables, earliest(group).email(), group)?;
-        start = free_first(&mut batch, start + len);
+        put_group(tables, earliest(group).email(), group)?;
+        start = free_first(batch, start + len);
     }
-    Ok(tables.as_newly_built())
+    Ok(())
 }
 
 // Frees so many entries at the front once they are more than half of the batch, so that fewer are moved than it had at

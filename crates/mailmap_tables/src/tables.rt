@@ -64,22 +64,15 @@ impl Tables {
         }
     }
 
-    /// Empty tables with capacity for this many emails and names, and for this many bytes of texts. Pages that aren't used stay
-    /// untouched, while tables that grow would leave holes in the memory.
-    pub(crate) fn with_capacity(
-        alloc: Global,
-        rows: usize,
-        bytes: usize,
-    ) -> Result<Tables, AllocError>
-        ensures { IfOk result (λ made. made ≡ record { pool = []; groups = [] }) }
+    /// Reserves capacity for this many more emails and names, and for this many more bytes of texts. Pages that aren't
+    /// used stay untouched, while tables that grow would leave holes in the memory.
+    pub(crate) fn reserve(&mut self, rows: usize, bytes: usize) -> Result<(), AllocError>
+        ensures { self.new ≡ self.old }
     {
-        Ok(Tables {
-            pool: Vec::with_capacity(alloc, bytes)?,
-            emails: Vec::with_capacity(alloc, rows)?,
-            names: Vec::with_capacity(alloc, rows)?,
-            prefixes: Vec::with_capacity(alloc, rows)?,
-            built_len: 0,
-        })
+        self.pool.reserve_exact(bytes)?;
+        self.emails.reserve_exact(rows)?;
+        self.names.reserve_exact(rows)?;
+        self.prefixes.reserve_exact(rows)
     }
 
     pub fn view(&self) -> View<'_>

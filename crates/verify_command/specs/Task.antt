@@ -15,7 +15,7 @@ use Rattle.command_line.specs.declared.failure.Failure.{Failure}
 use Rattle.command_line.specs.declared.failure.Failure.TheVariants.{File, GitLog, Input, Memory, Output}
 use Rattle.command_line.specs.Files.{AreRead, AtPath, Bytes, Fails, FailsForDefault, Gives, IsDefault, NamesFile, Unknown, default_path}
 use Rattle.command_line.specs.Printing.{Prints, PrintsFront}
-pub use Rattle.contact_input.specs.GitLog.{IsLog, is_git_log}
+pub use Rattle.command_line.specs.GitLog.{IsLog, is_git_log}
 use Rattle.command_line.specs.declared.TheConstants.{VERSION}
 use Rattle.command_line.specs.declared.outcome.Outcome.{Outcome}
 use Rattle.command_line.specs.declared.outcome.Outcome.TheVariants.{Clean, Found}

@@ -14,12 +14,11 @@ ghost use Rattle.verify_command.specs.Task.{IsReportBeside, Leaves, is_dash, wan
 use crate::asked::Request;
 use crate::failure::TaskFailure;
 use crate::report::print_pieces;
+use command_line::counting::count_contacts;
 use command_line::failure::Failure;
 use command_line::files::FileSystem;
 use command_line::outcome::Outcome;
-use contact_input::counting::count_contacts;
 use mailmap_contacts::counter::Contacts;
-use mailmap_contacts::unneeded::unneeded_by;
 use mailmap_findings::remarks::Remarks;
 use mailmap_findings::verify::{Mailmaps, Verification};
 use mailmap_redundancy::Position;
@@ -28,6 +27,7 @@ use mailmap_report::suggested::SuggestionPieces;
 use mailmap_suggestions::findings::{ContactFinding, contact_findings};
 use mailmap_suggestions::suggestions::suggest;
 use mailmap_suggestions::text::feed_after;
+use mailmap_suggestions::unneeded::unneeded_by;
 use std::alloc::{AllocError, Global};
 use std::io::{Read, Write};
 

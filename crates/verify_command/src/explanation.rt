@@ -14,7 +14,7 @@ use bstr::ByteSlice;
 use command_line::answering::{LineAnswers, answer_lines};
 use command_line::failure::Failure;
 use command_line::outcome::Outcome;
-use contact_input::start::read_start;
+use command_line::start::read_start;
 use mailmap_findings::verify::Mailmaps;
 use mailmap_report::explanation::Explainer;
 use std::alloc::{AllocError, Global};

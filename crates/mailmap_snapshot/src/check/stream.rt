@@ -8,10 +8,10 @@ ghost use Rattle.mailmap_grammar.specs.Lines.{HoldsNo};
 ghost use Rattle.mailmap_snapshot.specs.Contacts.{answer, answers, answers_by};
 ghost use Rattle.mailmap_snapshot.specs.Streams.{AreCachedAnswers, HasTaken};
 
-use crate::cache::{AnswerCache, ROW_LEN};
 use crate::check::{push_answers, snapshot_of};
 use crate::snapshot::Snapshot;
 use bstr::ByteSlice;
+use mailmap_grammar::cache::{AnswerCache, ROW_LEN};
 use mailmap_grammar::contacts::{ParsedContact, contact_of};
 use mailmap_grammar::hashing::hash_of;
 use std::alloc::{AllocError, Global};

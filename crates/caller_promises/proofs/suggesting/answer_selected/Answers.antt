@@ -2,13 +2,13 @@ use Rattle.std.proofs.Common.{map, refl, subst, sym}
 use Rattle.std.specs.List.{AllByRecursion}
 use Rattle.bstr.specs.Text.{lines_of}
 use Rattle.gix_mailmap.specs.Lines.{pieces}
-use Rattle.mailmap_contacts.specs.Contacts.{contacts_from}
-use Rattle.mailmap_suggestions.specs.Forms.{alike}
-use Rattle.mailmap_suggestions.specs.GroupEntries.{IsWritableContact}
-use Rattle.mailmap_suggestions.specs.Selections.{AreLinked, Selects, after_names, by_login, is_left_out_later}
-use Rattle.mailmap_suggestions.specs.Shared.{shared_emails}
-use Rattle.mailmap_suggestions.specs.Suggestions.{AreGroupClasses}
-use Rattle.mailmap_suggestions.specs.Written.{ContactHoldsNoZero, HoldsNoZero}
+use Rattle.gix_mailmap.specs.CountedContacts.{contacts_from}
+use Rattle.gix_mailmap.specs.Forms.{alike}
+use Rattle.gix_mailmap.specs.GroupEntries.{IsWritableContact}
+use Rattle.gix_mailmap.specs.Selections.{AreLinked, Selects, after_names, by_login, is_left_out_later}
+use Rattle.gix_mailmap.specs.Shared.{shared_emails}
+use Rattle.gix_mailmap.specs.Suggestions.{AreGroupClasses}
+use Rattle.gix_mailmap.specs.Written.{ContactHoldsNoZero, HoldsNoZero}
 use Rattle.caller_promises.specs.Suggested.{EmailsAgree, contacts_in, mappings_in, selection_of, with_last}
 use Rattle.caller_promises.proofs.Appending.{any_ok, each_counted, selected}
 use Rattle.caller_promises.proofs.suggesting.answer_selected.Goals as goal

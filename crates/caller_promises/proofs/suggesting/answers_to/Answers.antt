@@ -1,7 +1,7 @@
 use Rattle.std.proofs.Common.{◌∙◌, ap, arith, map, sym, take_all}
 use Rattle.std.proofs.lemmas.Simd.{map-map}
-use Rattle.mailmap_contacts.specs.Answers.{tally_of}
-use Rattle.mailmap_contacts.specs.Contacts.{answer_to}
+use Rattle.gix_mailmap.specs.Counts.{tally_of}
+use Rattle.gix_mailmap.specs.CountedContacts.{answer_to}
 use Rattle.caller_promises.proofs.suggesting.answers_to.Goals as goal
 
 pub returns : goal.returns

@@ -2,8 +2,8 @@
 use Rattle.std.proofs.Common.{◌≡◌, List, map, take}
 use Rattle.gix_mailmap.specs.Entries.{Mapping}
 use Rattle.gix_mailmap.specs.Semantics.{IsNormal}
-use Rattle.mailmap_contacts.specs.Answers.{tally_of}
-use Rattle.mailmap_contacts.specs.Contacts.{answer_to}
+use Rattle.gix_mailmap.specs.Counts.{tally_of}
+use Rattle.gix_mailmap.specs.CountedContacts.{answer_to}
 use Rattle.caller_promises.specs.Suggested.{contact_in}
 use Rattle.caller_promises.proofs.suggesting.answers_to.Given as goal
 

@@ -1,8 +1,8 @@
 use Rattle.std.proofs.Common.{◌≡◌, ◌∙◌, ◌++◌, ap, map, subst, sym}
 use Rattle.bstr.specs.Text.{lines_of}
 use Rattle.gix_mailmap.specs.Positions.{whole_lines}
-use Rattle.mailmap_contacts.specs.Contacts.{answer_to}
-use Rattle.mailmap_suggestions.specs.Printed.{IsSuggested}
+use Rattle.gix_mailmap.specs.CountedContacts.{answer_to}
+use Rattle.gix_mailmap.specs.Printed.{IsSuggested}
 use Rattle.caller_promises.specs.Suggested.{UnitesAppended, contact_in, contacts_in, mappings_in, with_last}
 use Rattle.caller_promises.proofs.suggesting.suggest_and_answer.Goals as goal
 

@@ -13,13 +13,13 @@ use Rattle.gix_mailmap_c.proofs.several.report_remarks.Goals as goal
 pub returns : goal.returns
 returns c = λ contacts unneeded about.
     let mailmaps = c.args.mailmaps.now in
-    let remarks : AreRemarks mailmaps contacts c.new-remarks.result = c.new-remarks.ensures mailmaps contacts (search rules) unneeded in
-    let found = map finding_view (iter_rest c.iter-findings.result) in
-    let shown : map finding_view c.args.findings.now ≡ found = sym (ap (map finding_view) c.iter-findings.ensures.rest) in
+    let remarks : AreRemarks mailmaps contacts c.new-2.result = c.new-2.ensures mailmaps contacts (search rules) unneeded in
+    let found = map finding_view (iter_rest c.iter.result) in
+    let shown : map finding_view c.args.findings.now ≡ found = sym (ap (map finding_view) c.iter.ensures.rest) in
     if_ok_map c.text_of.result _
     (λ text. IsReportBesideOf (choices_of c.args.settings.now) (texts c.args.names.now) mailmaps c.args.file.now contacts text.items)
     (λ text is. record {
-      remarks = c.new-remarks.result;
+      remarks = c.new-2.result;
       are_remarks = remarks;
       found = found;
       about = subst (AreContactFindings mailmaps (whole_lines contacts)) shown about;

@@ -1,5 +1,5 @@
 use Rattle.std.proofs.Common.{map}
-use Rattle.mailmap_snapshot.proofs.WritableLines.{built_fit}
+use Rattle.mailmap_grammar.proofs.WritableLines.{built_fit}
 use Rattle.mailmap_snapshot.proofs.check.compact.Goals as goal
 
 pub write_lines-requires : goal.write_lines-requires

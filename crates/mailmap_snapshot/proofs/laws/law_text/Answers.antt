@@ -1,4 +1,4 @@
-use Rattle.mailmap_snapshot.proofs.WritableLines.{built_fit}
+use Rattle.mailmap_grammar.proofs.WritableLines.{built_fit}
 use Rattle.mailmap_snapshot.proofs.laws.law_text.Goals as goal
 
 pub returns-clause-builds : goal.returns-clause-builds

@@ -1,6 +1,6 @@
 use Rattle.std.proofs.Common.{rules, ◌∙◌, ap}
 use Rattle.std.specs.Option.{option_map}
-use Rattle.contact_counter.specs.declared.occurrences.Occurrences.{Occurrences}
+use Rattle.mailmap_contacts.specs.declared.occurrences.Occurrences.{Occurrences}
 use Rattle.mailmap_contacts.specs.Answers.{answer_key, tally_of}
 use Rattle.mailmap_contacts.specs.Contacts.{Tally, same_contact, seen_where}
 use Rattle.mailmap_suggestions.proofs.Seeing.{looked_up}

@@ -2,8 +2,8 @@ use Rattle.std.proofs.Common.{rules, ◌≡◌, ◌∙◌, ℕ, Bor, List, ap, m
 use Rattle.std.specs.Global.{Vec}
 use Rattle.std.specs.Map.Iter.{deref_pair}
 use Rattle.std.proofs.lemmas.Map.Iter.{iter_end}
-use Rattle.contact_counter.specs.declared.occurrences.Occurrences.{Occurrences}
-use Rattle.contact_counter.proofs.Sums.{same_mapped}
+use Rattle.mailmap_contacts.specs.declared.occurrences.Occurrences.{Occurrences}
+use Rattle.mailmap_contacts.proofs.Sums.{same_mapped}
 use Rattle.mailmap_contacts.specs.Answers.{answer_key, answer_key_tally}
 use Rattle.mailmap_contacts.specs.Contacts.{raw_contacts_from, read_by, seen_where}
 use Rattle.mailmap_contacts.specs.Counts.{SameTallies}

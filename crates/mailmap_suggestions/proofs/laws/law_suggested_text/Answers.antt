@@ -1,4 +1,4 @@
-use Rattle.mailmap_snapshot.proofs.WritableLines.{all_read}
+use Rattle.mailmap_grammar.proofs.WritableLines.{all_read}
 use Rattle.mailmap_suggestions.proofs.GitText.{git_reads_emails}
 use Rattle.mailmap_suggestions.proofs.Selected.{none_selected}
 use Rattle.mailmap_suggestions.proofs.Texts.{lines_writable, text_read}

@@ -1,7 +1,7 @@
 use Rattle.std.proofs.Common.{◌+◌, take}
 use Rattle.mailmap_contacts.specs.Folded.{folded_text}
 use Rattle.mailmap_contacts.specs.declared.folded.Folded.{Folded}
-use Rattle.contact_counter.proofs.Steps.{mapped_more}
+use Rattle.mailmap_contacts.proofs.Steps.{mapped_more}
 use Rattle.mailmap_suggestions.proofs.Strangers.{index_more}
 use Rattle.mailmap_suggestions.proofs.shared.index_of.Goals as goal
 

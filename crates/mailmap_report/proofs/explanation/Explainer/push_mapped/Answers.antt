@@ -1,7 +1,7 @@
 use Rattle.std.proofs.Common.{rules, ◌≡◌, ◌++◌, ◌∙◌, List, ℕ, Vec, Global, ap, append_assoc, codes, map}
 use Rattle.mailmap_entries.specs.Folding.{Text}
 use Rattle.std.proofs.lemmas.Result.{on_ok_weaker}
-use Rattle.mailmap_snapshot.specs.Contacts.{contact_with}
+use Rattle.mailmap_grammar.specs.CanonicalText.{contact_with}
 use Rattle.mailmap_findings.specs.Explanations.{explained}
 use Rattle.mailmap_redundancy.specs.Origins.{origins}
 use Rattle.mailmap_entries.specs.Semantics.{answer_of}

@@ -1,7 +1,0 @@
-pub mod Counting
-pub mod Entries
-pub mod LineEnds
-pub mod RawContacts
-pub mod Steps
-pub mod Sums
-pub mod Tallied

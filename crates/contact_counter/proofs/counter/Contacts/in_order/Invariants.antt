@@ -1,9 +1,0 @@
--- The contacts so far, trimmed.
-use Rattle.std.proofs.Common.{map}
-use Rattle.contact_counter.specs.Contacts.{read_by, trimmed}
-use Rattle.contact_counter.specs.Counts.{SameTallies, answer_key_tally}
-use Rattle.contact_counter.proofs.Entries.{item_tally}
-use Rattle.contact_counter.proofs.counter.Contacts.in_order.Given as goal
-
-abbrev pub invariant-loop-name : goal.invariant-loop-name
-invariant-loop-name l = SameTallies (map answer_key_tally l.tallies.entries) (map (read_by trimmed) (map item_tally l.yielded))

@@ -1,5 +1,0 @@
-use Rattle.contact_counter.proofs.LineEnds.{contacts_of_pieces, no_contacts_of_pieces}
-use Rattle.contact_counter.proofs.laws.law_line_feeds.Goals as goal
-
-pub returns : goal.returns
-returns c = record { contacts = contacts_of_pieces; no_contacts = no_contacts_of_pieces }

@@ -1,7 +1,0 @@
--- The answers so far, and what is left of the map.
-use Rattle.std.proofs.Common.{◌≡◌, ◌++◌, map}
-use Rattle.contact_counter.proofs.Entries.{entry_of}
-use Rattle.contact_counter.proofs.tallies.answers_in.Given as goal
-
-abbrev pub invariant-loop-name : goal.invariant-loop-name
-invariant-loop-name l = map entry_of l.answers.items ++ l.name-iterator ≡ l.fn.tallies.entries

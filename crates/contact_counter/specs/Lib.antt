@@ -1,2 +1,0 @@
-pub mod Contacts
-pub mod Counts

@@ -1,4 +1,0 @@
-use Rattle.gix_mailmap_c.proofs.notices.words_alone.Goals as goal
-
-pub returns : goal.returns
-returns c = rw (c.as_slice.ensures.value, c.in_ok-names.ensures, c.as_slice-2.ensures.value, c.in_ok-buffers.ensures) at c.words_in.ensures
