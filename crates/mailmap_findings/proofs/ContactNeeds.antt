@@ -16,7 +16,7 @@ use Rattle.mailmap_redundancy.specs.Redundancy.{LocatedMapping, position_cmp, en
 use Rattle.mailmap_redundancy.specs.declared.located.Position.{Position}
 use Rattle.mailmap_redundancy.proofs.Positions.{positions_total}
 use Rattle.mailmap_findings.specs.Positions.{same_position, Line, located_lines, located, whole_lines, lines_from, texts_from, texts_left, has_entry_at}
-use Rattle.mailmap_findings.proofs.Lines.{same_is, located_filter, Ascend, all_told, lines_ascend, reported_at, told, later_map, sublist_filter, located_positions}
+use Rattle.mailmap_findings.proofs.Lines.{same_is, located_filter, Ascend, all_told, lines_ascend, told, later_map, sublist_filter, located_positions}
 use Rattle.mailmap_findings.specs.Needs.{any_needs, contact_needs, is_empty, AreUnneeded, is_deletable, needs, unneeded}
 use Rattle.std.proofs.lemmas.List.Folds.{list_any-from_Any}
 use Rattle.mailmap_entries.specs.Entries.{Mapping}
@@ -26,7 +26,7 @@ use Rattle.mailmap_redundancy.proofs.Giving.{needed_answer}
 use Rattle.mailmap_redundancy.proofs.Sublists.{sublist_map, sublist_trans}
 use Rattle.mailmap_redundancy.proofs.Kept.{one_effective, some_effective, effective_sublist}
 use Rattle.mailmap_findings.specs.Explanations.{in_order, needed_positions, position_of}
-use Rattle.mailmap_findings.specs.Findings.{AreFindings, Finding, is_reported_redundant, FindingKind, reported_of_line}
+use Rattle.mailmap_findings.specs.Findings.{AreFindings, Finding, is_reported_redundant, FindingKind, reported_at, reported_of_line}
 use Rattle.mailmap_findings.proofs.Pruned.{left_entries, or_false, same_listing, mappings_of_text}
 use Rattle.mailmap_findings.proofs.Read.{mappings_of-located_lines, entries-append, texts-located}
 use Rattle.mailmap_findings.proofs.Concatenated.{are_whole, some_whole}

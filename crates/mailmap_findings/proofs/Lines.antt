@@ -1,5 +1,5 @@
 -- The lines of buffers and their entries, and iterations over them that stay in step with the effective entries.
-use Rattle.std.proofs.Common.{◌≡◌, Option, None, Some, option_to_list, List, [], ◌∷◌, ◌++◌, Bool, true, false, if◌then◌else◌, filter, map, IfSome, refl, ap, ◌∙◌, ◌+◌, ◌<◌, ◌≤◌, ℕ, length, drop, get_or, Bor, Less, inr, ⊎_elim, sym, subst, arith, rules, Result, Ok, Err, ◌-◌}
+use Rattle.std.proofs.Common.{◌≡◌, None, Some, List, [], ◌∷◌, ◌++◌, Bool, true, false, if◌then◌else◌, filter, map, IfSome, refl, ap, ◌∙◌, ◌+◌, ◌<◌, ◌≤◌, ℕ, length, drop, get_or, Bor, Less, inr, ⊎_elim, sym, subst, arith, rules, Result, Ok, Err, ◌-◌}
 use Rattle.std.specs.List.{AllByRecursion, HoldsAt, cons_option, flat_map, list_any}
 use Rattle.std.specs.Option.{option_map}
 use Rattle.mailmap_entries.specs.Entries.{Mapping}
@@ -21,7 +21,7 @@ use Rattle.mailmap_entries.specs.Folding.{Text}
 use Rattle.mailmap_redundancy.proofs.Giving.{all_filter}
 use Rattle.mailmap_redundancy.proofs.Kept.{effective_sublist}
 use Rattle.mailmap_redundancy.proofs.Sublists.{sublist_all, sublist_sorted}
-use Rattle.mailmap_findings.specs.Findings.{AreFindings, AreInOrder, Finding, FindingKind, IsUpTo}
+use Rattle.mailmap_findings.specs.Findings.{AreFindings, AreInOrder, Finding, FindingKind, IsUpTo, reported_at}
 use Rattle.std.proofs.lemmas.Bool.{cases_lt}
 use Rattle.mailmap_redundancy.specs.declared.located.LocatedEntry.{LocatedEntry}
 
@@ -147,17 +147,6 @@ pub kept_ascend : (buffers : List Text) (kept : List LocatedMapping) → AreEffe
 kept_ascend buffers kept effective = grind (arith, sublist_sorted, effective_sublist, entries_ascend, lines_ascend)
 
 -- ---- findings
-
--- what is made of each of five, one after another
-pub five_mapped : {X Y : Type 0} (f : X → Y) (a b c d e : Option X) (p q r s t : Option Y)
-    → p ≡ option_map f a → q ≡ option_map f b → r ≡ option_map f c → s ≡ option_map f d → t ≡ option_map f e
-    → option_to_list p ++ option_to_list q ++ option_to_list r ++ option_to_list s ++ option_to_list t
-    ≡ map f (option_to_list a ++ option_to_list b ++ option_to_list c ++ option_to_list d ++ option_to_list e)
-five_mapped f a b c d e p q r s t is_p is_q is_r is_s is_t = grind (arith, map-append)
-
--- findings at one position
-abbrev pub reported_at : Position → List FindingKind → List Finding
-reported_at position ts = map (λ t. record { position = position; kind = t }) ts
 
 -- what holds of the position holds of those of the findings
 pub all_reported : (P : Position → Type 0) (position : Position) (ts : List FindingKind) → P position

@@ -16,7 +16,7 @@ use Rattle.mailmap_findings.specs.Explanations.{in_order, origin_positions, posi
 use Rattle.mailmap_findings.specs.Positions.{Line, located, same_position, entry, has_entry_at, whole_lines, located_from, lines_from, located_lines, located_entry}
 use Rattle.mailmap_findings.specs.Marks.{after_mark, is_marked, unmarked, unmarked_fields}
 use Rattle.mailmap_findings.specs.Pruning.{MarksStay, number_among, position_among, is_left, lines_left, renumbered, with_number}
-use Rattle.mailmap_findings.proofs.Lines.{Ascend, five_mapped, line_at, before_differs, after_differs, reported_at, lines_ascend, at_entries, all_located, later_filter, later_located, located_filter, same_itself, sublist_filter, same_is}
+use Rattle.mailmap_findings.proofs.Lines.{Ascend, line_at, before_differs, after_differs, lines_ascend, at_entries, all_located, later_filter, later_located, located_filter, same_itself, sublist_filter, same_is}
 use Rattle.std.proofs.lemmas.Bool.{or_right, or_left}
 use Rattle.std.proofs.lemmas.List.{map-append}
 use Rattle.std.proofs.lemmas.List.Concat.{flat_map-append}
@@ -25,7 +25,7 @@ use Rattle.std.proofs.lemmas.Simd.{map-map}
 use Rattle.mailmap_entries.specs.Entries.{Mapping}
 use Rattle.mailmap_grammar.specs.Lines.{Reading, mappings_of, strict_reading}
 use Rattle.mailmap_redundancy.proofs.Kept.{effective_again, effective_normal, effective_sublist, last_stays, one_effective, some_effective, listing_differs, effective_answer}
-use Rattle.mailmap_findings.specs.Findings.{IsPruned, is_line_kept, AreFindings, NewContact, Finding, FindingKind, byte_order_mark, proper_contact, findings, git_reads, has_no_effect, is_reported_redundant, mapped_contact, mapping_positions, read_otherwise, reported_mark, reported_of_contact, reported_of_effect, reported_of_entry, reported_of_line, reported_of_names, reported_of_proper, reported_of_reading, replaced_contact, first_read_otherwise}
+use Rattle.mailmap_findings.specs.Findings.{IsPruned, is_line_kept, AreFindings, NewContact, Finding, FindingKind, byte_order_mark, comment_in_line, proper_contact, findings, git_reads, given, has_comment, has_no_effect, is_reported_redundant, mapped_contact, mapping_positions, read_otherwise, reported_at, reported_of_contact, reported_of_entry, reported_of_line, reported_of_proper, reported_of_reading, reports, replaced_contact, some_if, first_read_otherwise}
 use Rattle.mailmap_findings.proofs.Read.{mappings_of-located_lines, entry_same, entries-renumbered, texts-located, located_accepted, reading_numbered}
 use Rattle.mailmap_findings.proofs.Concatenated.{joined, joined-whole_lines, are_whole, whole_lines-joined, texts, some_whole, AreWhole}
 use Rattle.std.proofs.lemmas.List.Elements.{All-contains_itself, recursion_from_All, filter-append, filter_map-append, filter_passes}
@@ -259,26 +259,21 @@ any_at : (position there : Position) (ts : List FindingKind) → list_any (redun
 any_at position there [] = grind arith
 any_at position there (t ∷ ts) = grind (arith, (any_at position there ts))
 
+given_any : (test : FindingKind → Bool) (os : List (Option FindingKind))
+    → list_any test (given os) ≡ list_any (λ o. list_any test (option_to_list o)) os
+given_any test [] = refl
+given_any test (o ∷ os) = grind (arith, list_any-append, (given_any test os))
+
 -- findings about the text of a line
-none_of_mark : (l : Line) → list_any has_no_effect (option_to_list (reported_mark l)) ≡ false
-none_of_mark l = grind arith
+none_of_flag : (b : Bool) (kind : FindingKind) → has_no_effect kind ≡ false
+    → list_any has_no_effect (option_to_list (some_if b kind)) ≡ false
+none_of_flag b kind other = grind arith
 
 none_of_reading : (t : Text) (o : Option Reading) → list_any has_no_effect (option_to_list (reported_of_reading t o)) ≡ false
 none_of_reading t o = grind arith
 
-none_of_names : (o : Option Mapping) → list_any has_no_effect (option_to_list (option_and_then reported_of_names o)) ≡ false
-none_of_names o = grind arith
-
 none_of_git : (o : Option GitReading) → list_any has_no_effect (option_to_list (option_map git_reads o)) ≡ false
 none_of_git o = grind arith
-
--- of five findings, only the last may say that there is no effect
-last_any : (a b c d e : Option FindingKind) → list_any has_no_effect (option_to_list a) ≡ false
-    → list_any has_no_effect (option_to_list b) ≡ false → list_any has_no_effect (option_to_list c) ≡ false
-    → list_any has_no_effect (option_to_list d) ≡ false
-    → list_any has_no_effect (option_to_list a ++ option_to_list b ++ option_to_list c ++ option_to_list d ++ option_to_list e)
-    ≡ list_any has_no_effect (option_to_list e)
-last_any a b c d e of_a of_b of_c of_d = grind (arith, list_any-append)
 
 contact_none : (c to : NewContact) (by : List Position)
     → list_any has_no_effect (option_to_list (reported_of_contact c to by)) ≡ false
@@ -310,13 +305,15 @@ module _ (h : List Mapping) (kept : List LocatedMapping) where
   effect_any is_kept bare taken (Some e) beside = entry_any is_kept bare taken e beside
 
   line_any : (l : Line) → IfEffective kept (entry l) → list_any has_no_effect (reported_of_line h kept l) ≡ not (is_line_kept kept l)
-  line_any l beside = last_any (reported_mark l)
-      (reported_of_reading (unmarked l).text (strict_reading l.position.line (unmarked l).text))
-      (option_and_then reported_of_names (entry (unmarked l))) (option_map git_reads (read_otherwise (unmarked l)))
-      (reported_of_effect h kept l) (none_of_mark l)
-      (none_of_reading (unmarked l).text (strict_reading l.position.line (unmarked l).text))
-      (none_of_names (entry (unmarked l))) (none_of_git (read_otherwise (unmarked l)))
-      ∙ effect_any (has_entry_at kept l.position) (is_marked l) (entry (unmarked l)) (entry l) beside
+  line_any l beside =
+      let m = unmarked l in
+      let marked = none_of_flag (is_marked l) byte_order_mark refl in
+      let text = none_of_reading m.text (strict_reading l.position.line m.text) in
+      let comment = none_of_flag (has_comment (entry m)) comment_in_line refl in
+      let git = none_of_git (read_otherwise m) in
+      let effect = effect_any (has_entry_at kept l.position) (is_marked l) (entry m) (entry l) beside in
+      given_any has_no_effect (reports h kept l)
+      ∙ (λ i. marked i || (text i || (comment i || (git i || (effect i || false))))) ∙ or_false (not (is_line_kept kept l))
 
   -- the lines that are reported at this position
   pub any_found : (position : Position) (ls : List Line) → AllByRecursion (λ l. IfEffective kept (entry l)) ls
@@ -414,14 +411,14 @@ contact_numbered : (move : Position → Position) (n : ℕ) (c to : NewContact) 
     → reported_of_contact c to (map move ps) ≡ option_map (with_number move n) (reported_of_contact c to ps)
 contact_numbered move n c to ps = grind (arith, first-map)
 
-mark_numbered : (move : Position → Position) (n : ℕ) (b : Bool)
-    → (if b then Some byte_order_mark else None) ≡ option_map (with_number move n) (if b then Some byte_order_mark else None)
-mark_numbered move n true = refl
-mark_numbered move n false = refl
+given_mapped : (f : FindingKind → FindingKind) (os : List (Option FindingKind))
+    → given (map (option_map f) os) ≡ map f (given os)
+given_mapped f [] = refl
+given_mapped f (o ∷ os) = grind (arith, map-append, (given_mapped f os))
 
-names_numbered : (move : Position → Position) (n : ℕ) (o : Option Mapping)
-    → option_and_then reported_of_names o ≡ option_map (with_number move n) (option_and_then reported_of_names o)
-names_numbered move n o = grind arith
+flag_numbered : (f : FindingKind → FindingKind) (b : Bool) (kind : FindingKind) → kind ≡ f kind
+    → some_if b kind ≡ option_map f (some_if b kind)
+flag_numbered f b kind same = grind arith
 
 git_numbered : (move : Position → Position) (n : ℕ) (o : Option GitReading)
     → option_map git_reads o ≡ option_map (with_number move n) (option_map git_reads o)
@@ -456,14 +453,13 @@ line_numbered move n l g h there kept marked reads ends =
     let text : (unmarked (moved_line move l)).text ≡ m.text = ap (λ k. k.text) (unmarked_moved move l marked) in
     let same : entry (unmarked (moved_line move l)) ≡ entry m = entry_same (unmarked (moved_line move l)) m text in
     let own : entry (moved_line move l) ≡ entry l = entry_same (moved_line move l) l refl in
-    five_mapped w (reported_mark l) (reported_of_reading m.text (strict_reading l.position.line m.text))
-    (option_and_then reported_of_names (entry m)) (option_map git_reads (read_otherwise m)) (reported_of_effect h kept l)
-    _ _ _ _ _
-    (ap (λ b. if b then Some byte_order_mark else None) marked ∙ mark_numbered move n (is_marked l))
-    (ap (λ t. reported_of_reading t (strict_reading (move l.position).line t)) text ∙ reads)
-    (ap (option_and_then reported_of_names) same ∙ names_numbered move n (entry m))
-    ((λ i. option_map git_reads (read_in_place (same i) (text i))) ∙ git_numbered move n (read_otherwise m))
-    ((λ i. option_and_then (reported_of_entry g there (has_entry_at there (move l.position)) (marked i) (same i)) (own i)) ∙ ends)
+    let mark = ap (λ b. some_if b byte_order_mark) marked ∙ flag_numbered w (is_marked l) byte_order_mark refl in
+    let of_text = ap (λ t. reported_of_reading t (strict_reading (move l.position).line t)) text ∙ reads in
+    let comment = ap (λ o. some_if (has_comment o) comment_in_line) same
+    ∙ flag_numbered w (has_comment (entry m)) comment_in_line refl in
+    let git = (λ i. option_map git_reads (read_in_place (same i) (text i))) ∙ git_numbered move n (read_otherwise m) in
+    let effect = (λ i. option_and_then (reported_of_entry g there (has_entry_at there (move l.position)) (marked i) (same i)) (own i)) ∙ ends in
+    (λ i. given (mark i ∷ of_text i ∷ comment i ∷ git i ∷ effect i ∷ [])) ∙ given_mapped w (reports h kept l)
 
 numbered_at : (all : List Line) (position : Position) (ts : List FindingKind)
     → reported_at (position_among all position) (map (with_number (position_among all) (number_among all position)) ts)

@@ -67,14 +67,10 @@ reported_of_reading line None = None
 reported_of_reading line (Some (Err f)) = Some (fault f)
 reported_of_reading line (Some (Ok e)) = option_map ignored_text (non_empty (ignored line))
 
--- the mailmap begins with a byte order mark, and this is its first line
-abbrev pub reported_mark : Line → Option FindingKind
-reported_mark l = if is_marked l then Some byte_order_mark else None
-
 -- a new name or an old one begins with `#`, which would begin a comment as the first byte of the line
-abbrev pub reported_of_names : Mapping → Option FindingKind
-reported_of_names e =
-    if is_comment (unwrap_or e.new_name []) || is_comment (unwrap_or e.old_name []) then Some comment_in_line else None
+abbrev pub has_comment : Option Mapping → Bool
+has_comment None = false
+has_comment (Some e) = is_comment (unwrap_or e.new_name []) || is_comment (unwrap_or e.old_name [])
 
 -- what git reads from a line, if that differs from its entry
 abbrev pub read_otherwise : Line → Option GitReading
@@ -137,18 +133,31 @@ reported_of_effect h kept l = option_and_then
 
 -- ---- all findings of all lines
 
--- the findings of a line: h has the entries of all lines, and `kept` the effective ones, which have one at the line's
--- position if its own is effective
+abbrev pub some_if : Bool → FindingKind → Option FindingKind
+some_if b kind = if b then Some kind else None
+
+-- what is reported of a line, each if it is so: h has the entries of all lines, and `kept` the effective ones, which
+-- have one at the line's position if its own is effective
+abbrev pub reports : List Mapping → List LocatedMapping → Line → List (Option FindingKind)
+reports h kept l = some_if (is_marked l) byte_order_mark
+    ∷ reported_of_reading (unmarked l).text (strict_reading l.position.line (unmarked l).text)
+    ∷ some_if (has_comment (entry (unmarked l))) comment_in_line
+    ∷ option_map git_reads (read_otherwise (unmarked l))
+    ∷ reported_of_effect h kept l ∷ []
+
+-- those that are there, in their order
+abbrev pub given : List (Option FindingKind) → List FindingKind
+given = flat_map option_to_list
+
 abbrev pub reported_of_line : List Mapping → List LocatedMapping → Line → List FindingKind
-reported_of_line h kept l =
-    option_to_list (reported_mark l) ++
-    option_to_list (reported_of_reading (unmarked l).text (strict_reading l.position.line (unmarked l).text)) ++
-    option_to_list (option_and_then reported_of_names (entry (unmarked l))) ++
-    option_to_list (option_map git_reads (read_otherwise (unmarked l))) ++
-    option_to_list (reported_of_effect h kept l)
+reported_of_line h kept l = given (reports h kept l)
+
+-- findings at one position
+abbrev pub reported_at : Position → List FindingKind → List Finding
+reported_at position kinds = map (λ t. record { position = position; kind = t }) kinds
 
 abbrev pub findings : List Mapping → List LocatedMapping → Line → List Finding
-findings h kept l = map (λ t. record { position = l.position; kind = t }) (reported_of_line h kept l)
+findings h kept l = reported_at l.position (reported_of_line h kept l)
 
 -- the findings of all lines of the buffers, in their order: all that there are, and nothing else
 pub record AreFindings (buffers : List Text) (found : List Finding) : Type 0 where
@@ -166,13 +175,8 @@ AreInOrder = AllLater (λ f g. IsUpTo f.position g.position)
 -- ---- pruned texts
 
 abbrev pub has_no_effect : FindingKind → Bool
-has_no_effect byte_order_mark = false
-has_no_effect (fault f) = false
-has_no_effect (ignored_text text) = false
-has_no_effect comment_in_line = false
-has_no_effect (git_reads reading) = false
 has_no_effect (no_effect beside is_same) = true
-has_no_effect (itself_mapped c to line second) = false
+has_no_effect _ = false
 
 abbrev pub is_reported_redundant : List Finding → Line → Bool
 is_reported_redundant found l = list_any (λ f. has_no_effect f.kind && same_position f.position l.position) found

@@ -4,7 +4,7 @@ use Rattle.std.specs.List.{AllByRecursion, list_any}
 use Rattle.std.specs.Option.{option_map}
 use Rattle.mailmap_entries.specs.Folding.{Text}
 use Rattle.mailmap_redundancy.specs.declared.located.Position.{Position}
-use Rattle.mailmap_findings.specs.Findings.{Finding, FindingKind, byte_order_mark, comment_in_line, fault, git_reads, has_no_effect, ignored_text, is_reported_redundant, itself_mapped, no_effect}
+use Rattle.mailmap_findings.specs.Findings.{Finding, FindingKind, fault, has_no_effect, is_reported_redundant, itself_mapped, no_effect}
 use Rattle.mailmap_findings.specs.Marks.{is_marked}
 use Rattle.mailmap_findings.specs.Positions.{Line, located_lines, same_position}
 
@@ -27,14 +27,11 @@ position_among ls position = record { buffer = 0; line = number_among ls positio
 
 -- a fault contains the number of its line, and some findings name other lines, which move
 abbrev pub with_number : (Position → Position) → ℕ → FindingKind → FindingKind
-with_number move n byte_order_mark = byte_order_mark
 with_number move n (fault f) = fault (record f { line = n })
-with_number move n (ignored_text text) = ignored_text text
-with_number move n comment_in_line = comment_in_line
-with_number move n (git_reads reading) = git_reads reading
 with_number move n (no_effect beside is_same) = no_effect (move beside) is_same
 with_number move n (itself_mapped contact to line second) =
     itself_mapped contact to (move line) (option_map move second)
+with_number move n kind = kind
 
 -- moves a finding, and the lines that it names, to where these are among these lines
 abbrev pub renumbered : List Line → Finding → Finding

@@ -191,11 +191,18 @@ fn split_once(text: &[u8], byte: u8) -> Option<(&[u8], &[u8])>
     }
 }
 
-// git's own `isspace` has no vertical tab and no form feed.
 #[tactic(auto, unfolding(crate::specs::Git::trim_name))]
 #[inline]
 fn trim_name(name: &[u8]) -> &[u8]
     ensures { result.now ≡ spec.trim_name name.now }
 {
-    name.trim_with(|c| matches!(c, ' ' | '\t' | '\r' | '\n'))
+    name.trim_with(is_git_space)
+}
+
+/// Whether git's own `isspace` knows the character, which has no vertical tab and no form feed.
+#[inline]
+pub fn is_git_space(c: char) -> bool
+    ensures { result ≡ spec.is_git_space c }
+{
+    matches!(c, ' ' | '\t' | '\r' | '\n')
 }

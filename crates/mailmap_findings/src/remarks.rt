@@ -15,7 +15,7 @@ use crate::verify::{Finding, Findings, Position};
 use std::marker::Model;
 
 /// A finding, or a line that no contact needs.
-#[derive(Debug, PartialEq, Eq, Drop)]
+#[derive(Clone, Copy, Debug, PartialEq, Eq)]
 pub enum Remark<'a> {
     Found(Finding<'a>),
     /// The line has an effect, but no contact needs it.
@@ -71,11 +71,11 @@ impl<'v, 'a> Iterator for Remarks<'v, 'a> {
 
     #[tactic(auto, using(crate::proofs::ContactNeeds::position_next))]
     fn next(&mut self) -> Option<Remark<'a>> {
-        if let Some((position, rest)) = first_before(&self.ahead, self.unneeded) {
+        if let Some((position, rest)) = first_before(self.ahead, self.unneeded) {
             self.unneeded = rest;
             return Some(Remark::Unneeded(position));
         }
-        let finding = self.ahead.take()?;
+        let finding = self.ahead?;
         self.ahead = self.findings.next();
         Some(Remark::Found(finding))
     }
@@ -83,10 +83,10 @@ impl<'v, 'a> Iterator for Remarks<'v, 'a> {
 
 // The first unneeded line and those after it, if it comes before the next finding.
 fn first_before<'v>(
-    ahead: &Option<Finding<'_>>,
+    ahead: Option<Finding<'_>>,
     unneeded: &'v [Position],
 ) -> Option<(Position, &'v [Position])>
-    ensures { option_map (λ p. (p.0, p.1.now)) result ≡ spec_first_before (option_map finding_of ahead.now) unneeded.now }
+    ensures { option_map (λ p. (p.0, p.1.now)) result ≡ spec_first_before (option_map finding_of ahead.entry) unneeded.now }
 {
     let (position, rest) = unneeded.split_first()?;
     match ahead {

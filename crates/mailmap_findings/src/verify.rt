@@ -36,17 +36,17 @@ use mailmap_redundancy::{Effective, LocatedEntry, without_redundant};
 use std::alloc::{AllocError, Global};
 use std::marker::Model;
 pub use walk::first_read_otherwise;
-use walk::{LineFindings, entry_of, line_findings, pruned_text};
+use walk::{LineKinds, entry_of, pruned_text};
 
 /// What is wrong with a line, and where the line is.
-#[derive(PartialEq, Eq, Debug, Drop)]
+#[derive(Clone, Copy, Debug, PartialEq, Eq)]
 pub struct Finding<'a> {
     pub position: Position,
     pub kind: FindingKind<'a>,
 }
 
 /// The kinds of findings, each with its details.
-#[derive(Debug, PartialEq, Eq, Drop)]
+#[derive(Clone, Copy, Debug, PartialEq, Eq)]
 pub enum FindingKind<'a> {
     /// The buffer begins with a byte order mark, which becomes a part of the line's first name or makes a comment a
     /// fault. All other findings of the line are those that it would have without the mark, but that its entry has no
@@ -233,13 +233,8 @@ impl<'m, 'a> Verification<'m, 'a> {
         Findings {
             lines: BufferLines::of(self.buffers),
             effective: &self.effective,
-            of_line: LineFindings {
-                of_mark: None,
-                of_text: None,
-                of_names: None,
-                of_git: None,
-                of_entry: None,
-            },
+            position: Position { buffer: 0, line: 0 },
+            of_line: LineKinds::none(),
         }
     }
 }
@@ -251,8 +246,9 @@ impl<'m, 'a> Verification<'m, 'a> {
 pub struct Findings<'v, 'a> {
     lines: BufferLines<'v, 'a>,
     effective: &'v Effective<'v, 'a>,
-    // the findings of the current line that are left
-    of_line: LineFindings<'a>,
+    // the current line, and the kinds of its findings that are left
+    position: Position,
+    of_line: LineKinds<'a>,
 }
 
 impl<'v, 'a> Model for Findings<'v, 'a> {
@@ -260,11 +256,11 @@ impl<'v, 'a> Model for Findings<'v, 'a> {
     ghost use Rattle.std.specs.List.{flat_map};
     ghost use Rattle.std.specs.List.Sorted.{IsStrictlySortedBy};
     ghost use Rattle.mailmap_redundancy.specs.Redundancy.{entries, position_cmp};
-    ghost use Rattle.mailmap_findings.specs.Findings.{Finding, findings};
+    ghost use Rattle.mailmap_findings.specs.Findings.{Finding, findings, reported_at};
 
     ghost Value = { List Finding };
 
-    ghost view = { λ s. s.of_line
+    ghost view = { λ s. reported_at s.position s.of_line
         ++ flat_map (findings (entries s.effective.now.history) s.effective.now.kept) s.lines };
 
     ghost invariant = { λ s. IsStrictlySortedBy position_cmp (map (λ x. x.position) s.effective.now.kept) };
@@ -279,11 +275,13 @@ impl<'v, 'a> Iterator for Findings<'v, 'a> {
 
     fn next(&mut self) -> Option<Finding<'a>> {
         loop {
-            if let Some(finding) = self.of_line.next() {
-                return Some(finding);
+            if let Some(kind) = self.of_line.next() {
+                let position = self.position;
+                return Some(Finding { position, kind });
             }
             let line = self.lines.next()?;
-            self.of_line = line_findings(self.effective, &line);
+            self.position = line.position;
+            self.of_line = LineKinds::of(self.effective, &line);
         }
     }
 }

@@ -237,7 +237,7 @@ impl<'a> Iterator for GoodLines<'a> {
 /// Each fault has the number of its line, from 1, and as `input` the line without the white space at its ends.
 /// [`Error::UnclosedSecond`] has only the rest of the line. The message names the line and the problem, but doesn't
 /// show `input`, which need not be UTF-8.
-#[derive(Debug, PartialEq, Eq, Drop, Error)]
+#[derive(Clone, Copy, Debug, PartialEq, Eq, Error)]
 pub enum Error<'a> {
     /// There is no `<`, as in `plain`.
     #[error("Line {line} does not contain an email")]

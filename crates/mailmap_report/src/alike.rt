@@ -2,6 +2,7 @@
 ghost use Rattle.std.specs.Prelude.{◌≡◌, ◌++◌, bytes_eq, chars, string_bytes, IfOk, OnOk};
 ghost use Rattle.mailmap_report.specs.Alike.{alike_text, are_seen_alike, look_alike, seen, visible};
 
+use crate::texts::push_text;
 use mailmap_suggestions::shortened::shortened;
 use shown_text::shown::is_hidden;
 use std::alloc::{AllocError, Global};
@@ -14,7 +15,7 @@ pub(crate) fn push_alike(text: &mut Vec<u8>, a: &[u8], b: &[u8]) -> Result<(), A
     ensures { OnOk result (text.new.items ≡ text.old.items ++ alike_text a.now b.now) }
 {
     if look_alike(*text.allocator(), a, b)? {
-        return text.extend_from_slice(b" (they look the same)");
+        return push_text(text, b" (they look the same)");
     }
     Ok(())
 }

@@ -2,6 +2,7 @@
 ghost use Rattle.std.specs.Prelude.{◌≡◌, ◌++◌, OnOk};
 ghost use Rattle.mailmap_report.specs.Escapes.{code_unit, escaped_char, escaped_json, escaped_piece, is_escaped};
 
+use crate::texts::push_text;
 use bstr::decode_utf8;
 use shown_text::shown::{is_hidden, last_four};
 use std::alloc::AllocError;
@@ -26,12 +27,12 @@ fn push_piece(line: &mut Vec<u8>, char: Option<char>, bytes: &[u8]) -> Result<()
     ensures { OnOk result (line.new.items ≡ line.old.items ++ escaped_piece char bytes.now) }
 {
     let Some(char) = char else {
-        return line.extend_from_slice(bytes);
+        return push_text(line, bytes);
     };
     if is_escaped(char) {
         return push_char(line, u32::from(char));
     }
-    line.extend_from_slice(bytes)
+    push_text(line, bytes)
 }
 
 fn is_escaped(char: char) -> bool
@@ -55,6 +56,6 @@ fn push_char(line: &mut Vec<u8>, code: u32) -> Result<(), AllocError>
 fn push_code_unit(line: &mut Vec<u8>, code: u32) -> Result<(), AllocError>
     ensures { OnOk result (line.new.items ≡ line.old.items ++ code_unit code) }
 {
-    line.extend_from_slice(b"\\u")?;
-    line.extend_from_slice(&last_four(code))
+    push_text(line, b"\\u")?;
+    push_text(line, &last_four(code))
 }

@@ -3,7 +3,7 @@ ghost use Rattle.std.specs.Prelude.{◌≡◌, codes, IfOk, OnOk};
 ghost use Rattle.std.specs.Option.{option_copied, option_map};
 ghost use Rattle.base64.specs.Engines.{standard};
 ghost use Rattle.base64.specs.GeneralPurpose.{encode_of};
-ghost use Rattle.serde_json.specs.Data.{member, no_members, object, string};
+ghost use Rattle.serde_json.specs.Data.{member, no_members, object, put as put_data, string};
 ghost use Rattle.serde_json.specs.View.{members_view, view};
 ghost use Rattle.mailmap_report.specs.Json.{file_line_of, members, named_of, notice_of, object_data, object_line, place_data, text_data};
 ghost use Rattle.mailmap_report.specs.Json.{with_beside, with_named, with_other, with_text};
@@ -42,37 +42,52 @@ pub(crate) fn object_line(alloc: Global, notice: &Notice<'_>) -> Result<Vec<u8>,
 fn object_value(alloc: Global, notice: &Notice<'_>) -> Result<Value, AllocError>
     ensures { IfOk result (λ value. view value ≡ object_data (notice_of notice.now)) }
 {
-    let mut map = members(alloc, notice)?;
-    put_other(&mut map, alloc, notice.other)?;
-    put_named(&mut map, alloc, notice.named)?;
-    put_beside(&mut map, alloc, notice.beside)?;
+    let mut map = Map::new(alloc);
+    put_notice(&mut map, alloc, notice)?;
     Ok(Value::Object(map))
 }
 
-// The members of each notice.
-fn members(alloc: Global, notice: &Notice<'_>) -> Result<Map<String, Value>, AllocError>
-    ensures { IfOk result (λ map. members_view map.entries ≡ members (notice_of notice.now)) }
+fn put_notice(
+    map: &mut Map<String, Value>,
+    alloc: Global,
+    notice: &Notice<'_>,
+) -> Result<(), AllocError>
+    ensures { members_view map.old.entries ≡ no_members
+        → OnOk result (object (members_view map.new.entries) ≡ object_data (notice_of notice.now)) }
 {
-    let mut map = Map::new(alloc);
-    let level = notice.kind.level().name().to_value(alloc)?;
-    let kind = notice.kind.name().to_value(alloc)?;
-    put(
-        &mut map,
-        alloc,
-        "file",
-        text_value(alloc, notice.place.file)?,
-    )?;
-    put(&mut map, alloc, "kind", kind)?;
-    put(&mut map, alloc, "level", level)?;
-    put(
-        &mut map,
-        alloc,
-        "line",
-        Value::from(notice.place.line as u64),
-    )?;
-    let message = text_value(alloc, notice.message.as_slice())?;
-    put(&mut map, alloc, "message", message)?;
-    Ok(map)
+    put_members(map, alloc, notice)?;
+    put_other(map, alloc, notice.other)?;
+    put_named(map, alloc, notice.named)?;
+    put_beside(map, alloc, notice.beside)
+}
+
+// Puts the members of each notice.
+fn put_members(
+    map: &mut Map<String, Value>,
+    alloc: Global,
+    notice: &Notice<'_>,
+) -> Result<(), AllocError>
+    ensures { members_view map.old.entries ≡ no_members
+        → OnOk result (members_view map.new.entries ≡ members (notice_of notice.now)) }
+{
+    let place = notice.place;
+    put_text(map, alloc, "file", Some(place.file))?;
+    put_str(map, alloc, "kind", notice.kind.name())?;
+    put_str(map, alloc, "level", notice.kind.level().name())?;
+    put(map, alloc, "line", Value::from(place.line as u64))?;
+    put_text(map, alloc, "message", Some(notice.message.as_slice()))
+}
+
+fn put_str(
+    map: &mut Map<String, Value>,
+    alloc: Global,
+    key: &str,
+    text: &str,
+) -> Result<(), AllocError>
+    ensures { OnOk result (members_view map.new.entries
+        ≡ put_data key.now (string text.now) (members_view map.old.entries)) }
+{
+    put(map, alloc, key, text.to_value(alloc)?)
 }
 
 fn put_other(

@@ -6,6 +6,7 @@ ghost use Rattle.mailmap_report.specs.Kinds.{contact_kind, finding_kind, kind_le
 ghost use Rattle.mailmap_report.specs.Kinds.{kind_names, kinds, level_name, likeness_kind};
 ghost use Rattle.mailmap_report.specs.declared.kinds.Kind.{Kind as TheKind};
 
+use crate::texts::push_text;
 use mailmap_findings::verify::FindingKind;
 use mailmap_grammar::lines::Error;
 use mailmap_suggestions::findings::{ContactFinding, Likeness};
@@ -78,10 +79,10 @@ const KINDS: [Kind; 18] = [
 ];
 
 impl Kind {
-    pub fn of_finding(finding: &FindingKind<'_>) -> Kind
-        ensures { result ≡ finding_kind (kind_of finding.now) }
+    pub(crate) fn of_finding(kind: FindingKind<'_>) -> Kind
+        ensures { result ≡ finding_kind (kind_of kind.entry) }
     {
-        match finding {
+        match kind {
             FindingKind::Fault(Error::NoEmail { .. }) => Kind::NoEmail,
             FindingKind::Fault(Error::MissingClosingBracket { .. }) => Kind::UnclosedEmail,
             FindingKind::Fault(Error::EmptyEmail { .. }) => Kind::EmptyEmail,
@@ -96,7 +97,7 @@ impl Kind {
         }
     }
 
-    pub fn of_contact_finding(finding: &ContactFinding<'_>) -> Kind
+    pub(crate) fn of_contact_finding(finding: &ContactFinding<'_>) -> Kind
         ensures { result ≡ contact_kind (finding_view finding.now) }
     {
         match finding {
@@ -190,6 +191,6 @@ fn push_names(text: &mut Vec<u8>, listed: &[Kind]) -> Result<(), AllocError>
 fn push_name(text: &mut Vec<u8>, kind: Kind) -> Result<(), AllocError>
     ensures { OnOk result (text.new.items ≡ text.old.items ++ 32 ∷ kind_name kind) }
 {
-    text.push(b' ')?;
-    text.extend_from_slice(kind.name().as_bytes())
+    push_text(text, b" ")?;
+    push_text(text, kind.name().as_bytes())
 }

@@ -14,3 +14,4 @@ pub mod pieces;
 pub mod places;
 pub mod settings;
 pub mod suggested;
+mod texts;

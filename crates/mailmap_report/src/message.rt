@@ -1,5 +1,5 @@
 //! What findings in mailmaps say.
-ghost use Rattle.std.specs.Prelude.{◌≡◌, ◌++◌, [], OnOk, unwrap_or};
+ghost use Rattle.std.specs.Prelude.{◌≡◌, ◌++◌, [], IfOk, OnOk, codes, unwrap_or};
 ghost use Rattle.std.specs.List.{list_any};
 ghost use Rattle.std.specs.Option.{option_copied, option_map};
 ghost use Rattle.command_line.specs.Files.{texts};
@@ -8,48 +8,54 @@ ghost use Rattle.mailmap_findings.specs.Findings.{contact_of, kind_of};
 ghost use Rattle.mailmap_findings.specs.Git.{git_reading_of};
 ghost use Rattle.mailmap_grammar.specs.CanonicalText.{bracketed_email, name_part};
 ghost use Rattle.mailmap_grammar.specs.Lines.{fault_of};
-ghost use Rattle.mailmap_report.specs.Alike.{alike_text};
 ghost use Rattle.mailmap_report.specs.Report.{contact_text, cure_text, entry_text, fault_text, git_text, is_email_byte};
 ghost use Rattle.mailmap_report.specs.Report.{message_text, says_text, shortened};
 
 use crate::alike::push_alike;
 use crate::places::{push_position, push_positions};
+use crate::texts::push_text;
 use itoa::Buffer;
 use mailmap_entries::Entry;
 use mailmap_findings::verify::{Contact, FindingKind, GitReading};
 use mailmap_grammar::lines::Error;
 use mailmap_grammar::writing::{push_email, push_name};
 use mailmap_suggestions::shortened::{push_short_contact, push_shortened, shortened};
-use std::alloc::AllocError;
+use std::alloc::{AllocError, Global};
 
-/// Appends what a finding says, without its place, its level and its kind.
-pub(crate) fn push_message(
+/// What a finding says, without its place, its level and its kind.
+pub(crate) fn message_of(
+    alloc: Global,
+    paths: &[Vec<u8>],
+    kind: FindingKind<'_>,
+) -> Result<Vec<u8>, AllocError>
+    ensures { IfOk result (λ message. message.items ≡ message_text (texts paths.now) (kind_of kind.entry)) }
+{
+    let mut message = Vec::new(alloc);
+    push_message(&mut message, paths, kind)?;
+    Ok(message)
+}
+
+fn push_message(
     text: &mut Vec<u8>,
     paths: &[Vec<u8>],
-    kind: &FindingKind<'_>,
+    kind: FindingKind<'_>,
 ) -> Result<(), AllocError>
     ensures { OnOk result (text.new.items
-        ≡ text.old.items ++ message_text (texts paths.now) (kind_of kind.now)) }
+        ≡ text.old.items ++ message_text (texts paths.now) (kind_of kind.entry)) }
 {
     match kind {
-        FindingKind::Fault(fault) => text.extend_from_slice(fault_name(fault).as_bytes()),
-        FindingKind::IgnoredText(ignored) => {
-            text.extend_from_slice(b"ignored text: ")?;
-            push_shortened(text, ignored)?;
-            push_cure(text, ignored)
-        }
-        FindingKind::ByteOrderMark => text.extend_from_slice(b"byte order mark: delete it"),
-        FindingKind::CommentInLine => text.extend_from_slice(
+        FindingKind::Fault(fault) => push_text(text, fault_name(fault).as_bytes()),
+        FindingKind::IgnoredText(ignored) => push_ignored(text, ignored),
+        FindingKind::ByteOrderMark => push_text(text, b"byte order mark: delete it"),
+        FindingKind::CommentInLine => push_text(
+            text,
             b"the name begins with #, which begins a comment only as the first byte of a line",
         ),
-        FindingKind::GitReads(reading) => {
-            text.extend_from_slice(b"git reads ")?;
-            push_reading(text, reading)
-        }
+        FindingKind::GitReads(reading) => push_reading(text, reading),
         FindingKind::NoEffect { beside, is_same } => {
-            text.extend_from_slice(b"no effect: ")?;
-            push_position(text, paths, *beside)?;
-            push_says(text, *is_same)
+            push_text(text, b"no effect: ")?;
+            push_position(text, paths, beside)?;
+            push_text(text, says_text(is_same))
         }
         FindingKind::ItselfMapped {
             contact,
@@ -57,25 +63,48 @@ pub(crate) fn push_message(
             first,
             second,
         } => {
-            push_some_contact(text, *contact)?;
-            text.extend_from_slice(b" is itself mapped, to ")?;
-            push_some_contact(text, *to)?;
-            text.extend_from_slice(b" by ")?;
-            push_positions(text, paths, *first, *second)?;
-            push_alike_names(text, *contact, *to)
+            push_mapped(text, contact, to)?;
+            push_positions(text, paths, first, second)?;
+            push_alike(text, name_of(contact), name_of(to))
         }
     }
 }
 
+fn push_ignored(text: &mut Vec<u8>, ignored: &[u8]) -> Result<(), AllocError>
+    ensures { OnOk result (text.new.items ≡ text.old.items
+        ++ (codes "ignored text: " ++ shortened ignored.now ++ cure_text ignored.now)) }
+{
+    push_text(text, b"ignored text: ")?;
+    push_shortened(text, ignored)?;
+    push_text(text, cure_text(ignored))
+}
+
+// Appends which contact is mapped, to which one; what comes next are the lines that do so.
+fn push_mapped(text: &mut Vec<u8>, contact: Contact<'_>, to: Contact<'_>) -> Result<(), AllocError>
+    ensures { OnOk result (text.new.items ≡ text.old.items ++ (contact_text (contact_of contact.entry)
+        ++ codes " is itself mapped, to " ++ contact_text (contact_of to.entry) ++ codes " by ")) }
+{
+    push_short_contact(text, name_of(contact), contact.email)?;
+    push_text(text, b" is itself mapped, to ")?;
+    push_short_contact(text, name_of(to), to.email)?;
+    push_text(text, b" by ")
+}
+
+fn name_of(contact: Contact<'_>) -> &[u8]
+    ensures { result.now ≡ unwrap_or (contact_of contact.entry).name [] }
+{
+    contact.name.unwrap_or(&[])
+}
+
 // Says what to do about a text that may be meant as a name, and not as an email or a comment.
 #[tactic(auto, unfolding(crate::specs::Report::cure_text))]
-fn push_cure(text: &mut Vec<u8>, ignored: &[u8]) -> Result<(), AllocError>
-    ensures { OnOk result (text.new.items ≡ text.old.items ++ cure_text ignored.now) }
+fn cure_text(ignored: &[u8]) -> &'static [u8]
+    ensures { result.now ≡ cure_text ignored.now }
 {
     match ignored {
-        [b'#', ..] => Ok(()),
-        _ if has_email_byte(ignored) => Ok(()),
-        _ => text.extend_from_slice(b" (an old name needs an email after it)"),
+        [b'#', ..] => b"",
+        _ if has_email_byte(ignored) => b"",
+        _ => b" (an old name needs an email after it)",
     }
 }
 
@@ -87,35 +116,18 @@ fn has_email_byte(text: &[u8]) -> bool
 }
 
 #[tactic(auto, unfolding(crate::specs::Report::says_text))]
-fn push_says(text: &mut Vec<u8>, is_same: bool) -> Result<(), AllocError>
-    ensures { OnOk result (text.new.items ≡ text.old.items ++ says_text is_same) }
+fn says_text(is_same: bool) -> &'static [u8]
+    ensures { result.now ≡ says_text is_same }
 {
     if is_same {
-        return text.extend_from_slice(b" says the same");
+        b" says the same"
+    } else {
+        b" says something else"
     }
-    text.extend_from_slice(b" says something else")
 }
 
-fn push_some_contact(text: &mut Vec<u8>, contact: Contact<'_>) -> Result<(), AllocError>
-    ensures { OnOk result (text.new.items ≡ text.old.items ++ contact_text (contact_of contact.entry)) }
-{
-    push_short_contact(text, contact.name.unwrap_or(&[]), contact.email)
-}
-
-// Says that two contacts look the same, if their names do and differ.
-fn push_alike_names(
-    text: &mut Vec<u8>,
-    contact: Contact<'_>,
-    to: Contact<'_>,
-) -> Result<(), AllocError>
-    ensures { OnOk result (text.new.items ≡ text.old.items
-        ++ alike_text (unwrap_or (contact_of contact.entry).name []) (unwrap_or (contact_of to.entry).name [])) }
-{
-    push_alike(text, contact.name.unwrap_or(&[]), to.name.unwrap_or(&[]))
-}
-
-fn fault_name(fault: &Error<'_>) -> &'static str
-    ensures { result.now ≡ fault_text (fault_of fault.now).kind }
+fn fault_name(fault: Error<'_>) -> &'static str
+    ensures { result.now ≡ fault_text (fault_of fault.entry).kind }
 {
     match fault {
         Error::NoEmail { .. } => "no email in brackets",
@@ -126,21 +138,21 @@ fn fault_name(fault: &Error<'_>) -> &'static str
     }
 }
 
-/// Appends what git reads, as in `it as Joe < a@x >`.
-pub(crate) fn push_reading(text: &mut Vec<u8>, reading: &GitReading<'_>) -> Result<(), AllocError>
-    ensures { OnOk result (text.new.items ≡ text.old.items ++ git_text (git_reading_of reading.now)) }
+// Appends what git reads, as in `git reads it as Joe < a@x >`.
+fn push_reading(text: &mut Vec<u8>, reading: GitReading<'_>) -> Result<(), AllocError>
+    ensures { OnOk result (text.new.items ≡ text.old.items ++ (codes "git reads " ++ git_text (git_reading_of reading.entry))) }
 {
     match reading {
-        GitReading::Nothing => text.extend_from_slice(b"nothing here"),
+        GitReading::Nothing => push_text(text, b"git reads nothing here"),
         GitReading::Entry(entry) => {
-            text.extend_from_slice(b"it as ")?;
-            push_entry(text, entry)
+            push_text(text, b"git reads it as ")?;
+            push_entry(text, &entry)
         }
         GitReading::Lines(count) => {
             let mut digits = Buffer::new();
-            text.extend_from_slice(b"it as ")?;
-            text.extend_from_slice(digits.format(*count).as_bytes())?;
-            text.extend_from_slice(b" lines")
+            push_text(text, b"git reads it as ")?;
+            push_text(text, digits.format(count).as_bytes())?;
+            push_text(text, b" lines")
         }
     }
 }
@@ -152,7 +164,7 @@ fn push_entry(text: &mut Vec<u8>, entry: &Entry<'_>) -> Result<(), AllocError>
     push_short_name(text, entry.new_name())?;
     if let Some(email) = entry.new_email() {
         push_short_email(text, email)?;
-        text.push(b' ')?;
+        push_text(text, b" ")?;
     }
     push_short_name(text, entry.old_name())?;
     push_short_email(text, entry.old_email())

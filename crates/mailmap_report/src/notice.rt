@@ -18,8 +18,9 @@ ghost use Rattle.mailmap_suggestions.specs.FindingViews.{finding_view};
 
 use crate::alike::push_alike;
 use crate::kinds::Kind;
-use crate::message::push_message;
+use crate::message::message_of;
 use crate::places::{Place, place_at};
+use crate::texts::push_text;
 use itoa::Buffer;
 use mailmap_contacts::answers::Tally;
 use mailmap_findings::remarks::Remark;
@@ -67,15 +68,14 @@ pub fn finding_notice<'n>(
 ) -> Result<Notice<'n>, AllocError>
     ensures { IfOk result (λ notice. notice_of notice ≡ finding_notice (texts names.now) (finding_of finding.now)) }
 {
-    let mut message = Vec::new(alloc);
-    push_message(&mut message, names, &finding.kind)?;
+    let message = message_of(alloc, names, finding.kind)?;
     Ok(Notice {
-        kind: Kind::of_finding(&finding.kind),
+        kind: Kind::of_finding(finding.kind),
         place: place_at(names, finding.position),
         message,
-        other: referred_line(names, &finding.kind),
-        named: named_in(&finding.kind),
-        beside: beside_in(&finding.kind),
+        other: referred_line(names, finding.kind),
+        named: named_in(finding.kind),
+        beside: beside_in(finding.kind),
     })
 }
 
@@ -134,42 +134,38 @@ pub fn contact_notice<'n>(
 }
 
 // The other line that a finding refers to, the first one if there are two.
-fn referred_line<'a>(names: &'a [Vec<u8>], kind: &FindingKind<'_>) -> Option<Place<'a>>
-    ensures { option_map file_line_of result ≡ referred_line (texts names.now) (kind_of kind.now) }
+fn referred_line<'a>(names: &'a [Vec<u8>], kind: FindingKind<'_>) -> Option<Place<'a>>
+    ensures { option_map file_line_of result ≡ referred_line (texts names.now) (kind_of kind.entry) }
 {
     match kind {
-        FindingKind::NoEffect { beside, .. } => Some(place_at(names, *beside)),
-        FindingKind::ItselfMapped { first, .. } => Some(place_at(names, *first)),
-        FindingKind::ByteOrderMark
-        | FindingKind::Fault(_)
-        | FindingKind::IgnoredText(_)
-        | FindingKind::CommentInLine
-        | FindingKind::GitReads(_) => None,
-    }
-}
-
-fn named_in<'a>(kind: &FindingKind<'a>) -> Named<'a>
-    ensures { named_of result ≡ spec_named_in (kind_of kind.now) }
-{
-    match kind {
-        FindingKind::GitReads(reading) => named_by_git(reading),
-        FindingKind::ItselfMapped { contact, .. } => named_contact(*contact),
-        _ => NO_NAME,
-    }
-}
-
-fn beside_in<'a>(kind: &FindingKind<'a>) -> Option<Named<'a>>
-    ensures { option_map named_of result ≡ spec_beside_in (kind_of kind.now) }
-{
-    match kind {
-        FindingKind::GitReads(reading) => beside_by_git(reading),
-        FindingKind::ItselfMapped { to, .. } => Some(named_contact(*to)),
+        FindingKind::NoEffect { beside, .. } => Some(place_at(names, beside)),
+        FindingKind::ItselfMapped { first, .. } => Some(place_at(names, first)),
         _ => None,
     }
 }
 
-fn named_by_git<'a>(reading: &GitReading<'a>) -> Named<'a>
-    ensures { named_of result ≡ spec_named_by_git (git_reading_of reading.now) }
+fn named_in<'a>(kind: FindingKind<'a>) -> Named<'a>
+    ensures { named_of result ≡ spec_named_in (kind_of kind.entry) }
+{
+    match kind {
+        FindingKind::GitReads(reading) => named_by_git(reading),
+        FindingKind::ItselfMapped { contact, .. } => named_contact(contact),
+        _ => NO_NAME,
+    }
+}
+
+fn beside_in<'a>(kind: FindingKind<'a>) -> Option<Named<'a>>
+    ensures { option_map named_of result ≡ spec_beside_in (kind_of kind.entry) }
+{
+    match kind {
+        FindingKind::GitReads(reading) => beside_by_git(reading),
+        FindingKind::ItselfMapped { to, .. } => Some(named_contact(to)),
+        _ => None,
+    }
+}
+
+fn named_by_git<'a>(reading: GitReading<'a>) -> Named<'a>
+    ensures { named_of result ≡ spec_named_by_git (git_reading_of reading.entry) }
 {
     match reading {
         GitReading::Nothing => NO_NAME,
@@ -181,13 +177,13 @@ fn named_by_git<'a>(reading: &GitReading<'a>) -> Named<'a>
         GitReading::Lines(count) => Named {
             name: None,
             email: None,
-            count: Some(*count),
+            count: Some(count),
         },
     }
 }
 
-fn beside_by_git<'a>(reading: &GitReading<'a>) -> Option<Named<'a>>
-    ensures { option_map named_of result ≡ spec_beside_by_git (git_reading_of reading.now) }
+fn beside_by_git<'a>(reading: GitReading<'a>) -> Option<Named<'a>>
+    ensures { option_map named_of result ≡ spec_beside_by_git (git_reading_of reading.entry) }
 {
     match reading {
         GitReading::Entry(entry) => Some(Named {
@@ -195,7 +191,7 @@ fn beside_by_git<'a>(reading: &GitReading<'a>) -> Option<Named<'a>>
             email: Some(entry.old_email()),
             count: None,
         }),
-        GitReading::Nothing | GitReading::Lines(_) => None,
+        _ => None,
     }
 }
 
@@ -264,20 +260,20 @@ fn push_contact_words(text: &mut Vec<u8>, finding: &ContactFinding<'_>) -> Resul
     ensures { OnOk result (text.new.items ≡ text.old.items ++ contact_words (finding_view finding.now)) }
 {
     match finding {
-        ContactFinding::NoContact(_) => text.extend_from_slice(b"no contact"),
+        ContactFinding::NoContact(_) => push_text(text, b"no contact"),
         ContactFinding::SharedEmail(email, seen) => {
             push_shortened(text, email)?;
-            text.extend_from_slice(b" is the email of several people")?;
+            push_text(text, b" is the email of several people")?;
             push_count(text, seen.count)
         }
         ContactFinding::IsLike(likeness, answer, best) => {
             push_counted(text, answer)?;
-            text.extend_from_slice(likeness_text(*likeness))?;
+            push_text(text, likeness_text(*likeness))?;
             push_counted(text, best)?;
             push_alike(text, answer.name, best.name)
         }
         ContactFinding::GitAnswers(answer) => {
-            text.extend_from_slice(b"git answers ")?;
+            push_text(text, b"git answers ")?;
             push_short_contact(text, answer.name, answer.email)
         }
     }
@@ -305,8 +301,7 @@ fn push_count(text: &mut Vec<u8>, count: usize) -> Result<(), AllocError>
     ensures { OnOk result (text.new.items ≡ text.old.items ++ count_text count) }
 {
     let mut digits = Buffer::new();
-    text.extend_from_slice(b" (")?;
-    text.extend_from_slice(digits.format(count).as_bytes())?;
-    text.push(b')')?;
-    Ok(())
+    push_text(text, b" (")?;
+    push_text(text, digits.format(count).as_bytes())?;
+    push_text(text, b")")
 }

@@ -1,5 +1,5 @@
 //! Reports in pieces, each of which is a line, an object of JSON or several lines.
-ghost use Rattle.std.specs.Prelude.{◌≡◌, ◌++◌, ◌∷◌, [], IfOk, List, map};
+ghost use Rattle.std.specs.Prelude.{◌≡◌, ◌++◌, ◌∷◌, [], IfOk, List, OnOk, map};
 ghost use Rattle.std.specs.Iterator.{YieldsFirstBy};
 ghost use Rattle.std.specs.Slice.Iter.{iter_rest};
 ghost use Rattle.command_line.specs.Files.{texts};
@@ -15,6 +15,7 @@ use crate::json::object_line;
 use crate::notice::{Notice, contact_notice, finding_notice, remark_notice};
 use crate::places::push_place;
 use crate::settings::{Format, Settings};
+use crate::texts::push_text;
 use bstr::ByteSlice;
 use mailmap_findings::remarks::Remarks;
 use mailmap_findings::verify::Findings;
@@ -46,7 +47,7 @@ pub fn text_of<S: Pieces + Drop>(alloc: Global, mut pieces: S) -> Result<Vec<u8>
 {
     let mut text = Vec::new(alloc);
     while let Some(piece) = pieces.next_piece(alloc)? {
-        text.extend_from_slice(piece.text.as_slice())?;
+        push_text(&mut text, piece.text.as_slice())?;
     }
     Ok(text)
 }
@@ -80,7 +81,7 @@ impl Pieces for FindingPieces<'_, '_, '_> {
             return Ok(None);
         };
         let notice = finding_notice(alloc, self.names, &finding)?;
-        Ok(Some(notice_piece(alloc, self.settings, &notice)?))
+        Ok(Some(notice_piece(alloc, self.settings, notice)?))
     }
 }
 
@@ -101,25 +102,21 @@ impl Pieces for PiecesBeside<'_, '_, '_, '_, '_> {
     fn next_piece(&mut self, alloc: Global) -> Result<Option<Piece>, AllocError> {
         if let Some(remark) = self.remarks.next() {
             let notice = remark_notice(alloc, self.names, &remark)?;
-            return Ok(Some(notice_piece(alloc, self.settings, &notice)?));
+            return Ok(Some(notice_piece(alloc, self.settings, notice)?));
         }
         let Some(finding) = self.findings.next() else {
             return Ok(None);
         };
         let notice = contact_notice(alloc, self.file, finding)?;
-        Ok(Some(notice_piece(alloc, self.settings, &notice)?))
+        Ok(Some(notice_piece(alloc, self.settings, notice)?))
     }
 }
 
 // The text of a notice if it is reported, and whether it counts.
-fn notice_piece(
-    alloc: Global,
-    settings: &Settings,
-    notice: &Notice<'_>,
-) -> Result<Piece, AllocError>
-    ensures { IfOk result (λ piece. piece_of piece ≡ notice_piece (choices_of settings.now) (notice_of notice.now)) }
+fn notice_piece(alloc: Global, settings: &Settings, notice: Notice<'_>) -> Result<Piece, AllocError>
+    ensures { IfOk result (λ piece. piece_of piece ≡ notice_piece (choices_of settings.now) (notice_of notice.entry)) }
 {
-    let text = formatted(alloc, settings, notice)?;
+    let text = formatted(alloc, settings, &notice)?;
     let counts = settings.counts(notice.kind);
     Ok(Piece { text, counts })
 }
@@ -143,15 +140,21 @@ fn line_of(alloc: Global, notice: &Notice<'_>) -> Result<Vec<u8>, AllocError>
     ensures { IfOk result (λ line. line.items ≡ shown_line (notice_text (notice_of notice.now))) }
 {
     let mut text = Vec::new(alloc);
-    push_place(&mut text, notice.place)?;
-    text.extend_from_slice(b": ")?;
-    text.extend_from_slice(notice.kind.level().name().as_bytes())?;
-    text.extend_from_slice(b": ")?;
-    text.extend_from_slice(notice.message.as_slice())?;
-    text.extend_from_slice(b" [")?;
-    text.extend_from_slice(notice.kind.name().as_bytes())?;
-    text.push(b']')?;
+    push_notice(&mut text, notice)?;
     shown_line(alloc, text)
+}
+
+fn push_notice(text: &mut Vec<u8>, notice: &Notice<'_>) -> Result<(), AllocError>
+    ensures { OnOk result (text.new.items ≡ text.old.items ++ notice_text (notice_of notice.now)) }
+{
+    push_place(text, notice.place)?;
+    push_text(text, b": ")?;
+    push_text(text, notice.kind.level().name().as_bytes())?;
+    push_text(text, b": ")?;
+    push_text(text, notice.message.as_slice())?;
+    push_text(text, b" [")?;
+    push_text(text, notice.kind.name().as_bytes())?;
+    push_text(text, b"]")
 }
 
 // Escapes a line, and ends it. Few lines need escapes, so others aren't copied.
@@ -182,8 +185,8 @@ fn escaped_line(
 {
     let mut line = Vec::new(alloc);
     push_shown(&mut line, start)?;
-    line.extend_from_slice(escaped)?;
+    push_text(&mut line, escaped)?;
     push_shown(&mut line, rest)?;
-    line.push(b'\n')?;
+    push_text(&mut line, b"\n")?;
     Ok(line)
 }

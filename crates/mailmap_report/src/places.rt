@@ -4,6 +4,7 @@ ghost use Rattle.command_line.specs.Files.{texts};
 ghost use Rattle.mailmap_report.specs.Json.{file_line_of};
 ghost use Rattle.mailmap_report.specs.Report.{file_name, place_at, place_text, position_text, positions_text};
 
+use crate::texts::push_text;
 use itoa::Buffer;
 use mailmap_findings::verify::Position;
 use std::alloc::AllocError;
@@ -31,9 +32,9 @@ pub(crate) fn push_place(text: &mut Vec<u8>, place: Place<'_>) -> Result<(), All
     ensures { OnOk result (text.new.items ≡ text.old.items ++ place_text (file_line_of place.entry)) }
 {
     let mut digits = Buffer::new();
-    text.extend_from_slice(place.file)?;
-    text.push(b':')?;
-    text.extend_from_slice(digits.format(place.line).as_bytes())
+    push_text(text, place.file)?;
+    push_text(text, b":")?;
+    push_text(text, digits.format(place.line).as_bytes())
 }
 
 /// Appends the positions of one or two lines.
@@ -49,7 +50,7 @@ pub(crate) fn push_positions(
     push_position(text, paths, first)?;
     match second {
         Some(second) => {
-            text.extend_from_slice(b", ")?;
+            push_text(text, b", ")?;
             push_position(text, paths, second)
         }
         None => Ok(()),

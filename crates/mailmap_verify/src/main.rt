@@ -87,27 +87,34 @@ fn say(rt: &HostRuntime, line: Result<Vec<u8>, AllocError>) {
 
 // The message for a wrong argument, and the usage. Fails if there was no memory for the arguments.
 fn misuse_lines(alloc: Global, error: &ParseError) -> Result<Vec<u8>, AllocError> {
-    let (words, argument) = match error {
-        ParseError::UnknownOption(option) => (["unknown option: ", "", ""], option.as_slice()),
-        ParseError::SecondMode(option) => (["a second mode: ", "", ""], option.as_slice()),
-        ParseError::NoValue(setting, option) => {
-            (["no ", value_of(*setting), " after "], option.as_slice())
-        }
-        ParseError::UnknownValue(setting, value) => {
-            (["unknown ", value_of(*setting), ": "], value.as_slice())
-        }
-        ParseError::Unused(mode, setting) => {
-            (
-                [name_of(*mode), " takes no ", ""],
-                setting.name().as_bytes(),
-            )
-        }
-        ParseError::InPlaceAlone => (["--in-place needs --prune", "", ""], b"".as_slice()),
-        ParseError::Memory => return Err(AllocError),
-    };
-    let what = words.concat(alloc)?;
+    let what = words_of(error)?.concat(alloc)?;
     let help = help_lines(alloc, error)?;
+    let argument = argument_of(error);
     messages::misuse_lines(alloc, PROGRAM, what.as_bytes(), argument, help.as_slice())
+}
+
+fn words_of(error: &ParseError) -> Result<[&'static str; 3], AllocError> {
+    match error {
+        ParseError::UnknownOption(_) => Ok(["unknown option: ", "", ""]),
+        ParseError::SecondMode(_) => Ok(["a second mode: ", "", ""]),
+        ParseError::NoValue(setting, _) => Ok(["no ", value_of(*setting), " after "]),
+        ParseError::UnknownValue(setting, _) => Ok(["unknown ", value_of(*setting), ": "]),
+        ParseError::Unused(mode, _) => Ok([name_of(*mode), " takes no ", ""]),
+        ParseError::InPlaceAlone => Ok(["--in-place needs --prune", "", ""]),
+        ParseError::Memory => Err(AllocError),
+    }
+}
+
+// The argument that the message ends with.
+fn argument_of(error: &ParseError) -> &[u8] {
+    match error {
+        ParseError::UnknownOption(argument)
+        | ParseError::SecondMode(argument)
+        | ParseError::NoValue(_, argument)
+        | ParseError::UnknownValue(_, argument) => argument.as_slice(),
+        ParseError::Unused(_, setting) => setting.name().as_bytes(),
+        ParseError::InPlaceAlone | ParseError::Memory => b"",
+    }
 }
 
 // What there is in place of an unknown value, and the usage.
@@ -159,34 +166,41 @@ fn failure_line(
     request: &Request,
     failure: TaskFailure,
 ) -> Result<Vec<u8>, AllocError> {
-    let paths = request.paths.as_slice();
     let mut line = Vec::from_slice(alloc, b"mailmap_verify: ")?;
+    push_cause(&mut line, request, failure)?;
+    line.push(b'\n')?;
+    Ok(line)
+}
+
+fn push_cause(
+    line: &mut Vec<u8>,
+    request: &Request,
+    failure: TaskFailure,
+) -> Result<(), AllocError> {
+    let paths = request.paths.as_slice();
     match failure {
-        TaskFailure::Run(failure) => push_failure(&mut line, paths, failure)?,
+        TaskFailure::Run(failure) => push_failure(line, paths, failure),
         TaskFailure::Contacts { cause } => {
-            push_shown(&mut line, request.contacts.as_slice())?;
+            push_shown(line, request.contacts.as_slice())?;
             line.extend_from_slice(b": ")?;
-            line.extend_from_slice(cause_text(cause).as_bytes())?;
+            line.extend_from_slice(cause_text(cause).as_bytes())
         }
-        TaskFailure::TooManyFiles => line.extend_from_slice(b"--prune takes one FILE at most")?,
+        TaskFailure::TooManyFiles => line.extend_from_slice(b"--prune takes one FILE at most"),
         TaskFailure::ReadOtherwise { position } => {
-            let mut shown = Vec::new(alloc);
-            let names = request.settings.mailmap_names(paths);
-            push_position(&mut shown, names, position)?;
+            let mut place = Vec::new(*line.allocator());
+            push_position(&mut place, request.settings.mailmap_names(paths), position)?;
             line.extend_from_slice(b"git reads ")?;
-            push_shown(&mut line, shown.as_slice())?;
-            line.extend_from_slice(b" otherwise")?;
+            push_shown(line, place.as_slice())?;
+            line.extend_from_slice(b" otherwise")
         }
         TaskFailure::Unreplaced { index, cause } => {
             if let Some(path) = paths.get(index) {
-                push_shown(&mut line, path.as_slice())?;
+                push_shown(line, path.as_slice())?;
             }
             line.extend_from_slice(b": cannot be replaced: ")?;
-            line.extend_from_slice(unreplaced_text(cause).as_bytes())?;
+            line.extend_from_slice(unreplaced_text(cause).as_bytes())
         }
     }
-    line.push(b'\n')?;
-    Ok(line)
 }
 
 // Why a file can't be replaced.

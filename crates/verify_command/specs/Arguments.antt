@@ -53,16 +53,19 @@ wanted_of r = record {
   in_place = r.in_place;
 }
 
--- Unless memory runs out, this is the request or the error.
+-- Unless memory runs out, the result's value as `view` shows it, or its error, is this.
+abbrev pub IsAnswer : {T V : Type 0} → (T → V) → Result T ParseError → Result V Wrong → Type 0
+IsAnswer view (Ok value) asked = Ok (view value) ≡ asked
+IsAnswer view (Err (error.UnknownOption option)) asked = Err (unknown_option option.items) ≡ asked
+IsAnswer view (Err (error.SecondMode option)) asked = Err (second_mode option.items) ≡ asked
+IsAnswer view (Err (error.NoValue setting option)) asked = Err (no_value setting option.items) ≡ asked
+IsAnswer view (Err (error.UnknownValue setting value)) asked = Err (unknown_value setting value.items) ≡ asked
+IsAnswer view (Err (error.Unused mode setting)) asked = Err (unused mode setting) ≡ asked
+IsAnswer view (Err error.InPlaceAlone) asked = Err in_place_alone ≡ asked
+IsAnswer view (Err error.Memory) asked = ⊤
+
 abbrev pub IsAsked : Result Request ParseError → Result Wanted Wrong → Type 0
-IsAsked (Ok request) asked = Ok (wanted_of request) ≡ asked
-IsAsked (Err (error.UnknownOption option)) asked = Err (unknown_option option.items) ≡ asked
-IsAsked (Err (error.SecondMode option)) asked = Err (second_mode option.items) ≡ asked
-IsAsked (Err (error.NoValue setting option)) asked = Err (no_value setting option.items) ≡ asked
-IsAsked (Err (error.UnknownValue setting value)) asked = Err (unknown_value setting value.items) ≡ asked
-IsAsked (Err (error.Unused mode setting)) asked = Err (unused mode setting) ≡ asked
-IsAsked (Err error.InPlaceAlone) asked = Err in_place_alone ≡ asked
-IsAsked (Err error.Memory) asked = ⊤
+IsAsked = IsAnswer wanted_of
 
 -- what no argument asks for
 abbrev pub plain : Mode → Wanted
@@ -125,8 +128,8 @@ word_of argument = if bytes_eq argument (codes "--") then word.End
 -- ---- what an option adds to a request
 
 -- what comes after a step, unless it found an error
-abbrev pub followed : Result Wanted Wrong → (Wanted → Result Wanted Wrong) → Result Wanted Wrong
-followed (Ok w) next = next w
+abbrev pub followed : {V : Type 0} → Result V Wrong → (V → Result Wanted Wrong) → Result Wanted Wrong
+followed (Ok value) next = next value
 followed (Err wrong) next = Err wrong
 
 -- whether the mode prints findings
@@ -179,18 +182,12 @@ format_named name = if bytes_eq name (codes "gcc") then Some Gcc else if bytes_e
 abbrev pub names_in : Text → List Text
 names_in value = split_at value 1 0 (matches value (44 ∷ []) 0)
 
--- the kinds with these names after others, or the first name that is none
-abbrev pub kinds_after : List Kind → List Text → Result (List Kind) Text
+-- the kinds with these names after others; the first name that is none is wrong
+abbrev pub kinds_after : List Kind → List Text → Result (List Kind) Wrong
 kinds_after kinds [] = Ok kinds
 kinds_after kinds (name ∷ names) = elim (kind_named name) [
   | Some kind ↦ kinds_after (kinds ++ kind ∷ []) names
-  | None ↦ Err name
-]
-
-abbrev pub with_excluded : Wanted → Text → Result Wanted Wrong
-with_excluded w value = elim (kinds_after w.choices.excluded (names_in value)) [
-  | Ok kinds ↦ checked (record w { choices = record w.choices { excluded = kinds } })
-  | Err name ↦ Err (unknown_value setting.Exclude name)
+  | None ↦ Err (unknown_value setting.Exclude name)
 ]
 
 abbrev pub with_setting : Wanted → Setting → Text → Text → Result Wanted Wrong
@@ -200,7 +197,8 @@ with_setting w setting.Severity option value = elim (level_named value) [
   | Some level ↦ checked (record w { choices = record w.choices { severity = Some level } })
   | None ↦ Err (unknown_value setting.Severity value)
 ]
-with_setting w setting.Exclude option value = with_excluded w value
+with_setting w setting.Exclude option value = followed (kinds_after w.choices.excluded (names_in value))
+    (λ kinds. checked (record w { choices = record w.choices { excluded = kinds } }))
 with_setting w setting.Format option value = elim (format_named value) [
   | Some format ↦ checked (record w { choices = record w.choices { format = Some format } })
   | None ↦ Err (unknown_value setting.Format value)

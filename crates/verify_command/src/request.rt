@@ -1,20 +1,20 @@
 //! Parses the arguments of `mailmap_verify`.
-ghost use Rattle.std.specs.Prelude.{◌≡◌, [], Err, Ok, drop, false, length, true};
+ghost use Rattle.std.specs.Prelude.{◌≡◌, [], Err, None, OnOk, drop, false, length, true};
 ghost use Rattle.std.specs.Option.{option_copied};
 ghost use Rattle.std.specs.Vec.Iter.{into_iter_items, into_iter_len};
 ghost use Rattle.command_line.specs.Files.{texts};
-ghost use Rattle.verify_command.specs.Arguments.{IsAsked, asked, can_be_mailmap, checked, contacts_name};
-ghost use Rattle.verify_command.specs.Arguments.{ended, finished, format_named, is_only_dash, level_named, name_in, plain, reads_default};
-ghost use Rattle.verify_command.specs.Arguments.{reads_contacts, reads_mailmap, reports, setting_named, setting_word, takes_contacts, takes_default, unused_setting};
-ghost use Rattle.verify_command.specs.Arguments.{value_in, wanted_of, with_excluded, with_mode, with_paths, with_setting};
-ghost use Rattle.verify_command.specs.Arguments.{without_value, word_of};
+ghost use Rattle.verify_command.specs.Arguments.{IsAnswer, IsAsked, asked, asked_in, can_be_mailmap, checked, contacts_name};
+ghost use Rattle.verify_command.specs.Arguments.{ended, finished, format_named, is_only_dash, kinds_after, level_named, name_in, names_in};
+ghost use Rattle.verify_command.specs.Arguments.{plain, reads_contacts, reads_default, reads_mailmap, reports, setting_named, setting_word};
+ghost use Rattle.verify_command.specs.Arguments.{takes_contacts, takes_default, unused_setting, value_in, wanted_of, with_mode, with_paths};
+ghost use Rattle.verify_command.specs.Arguments.{with_setting, without_value, word_of};
 
 use crate::asked::{Mode, ParseError, Request, Setting};
 use bstr::ByteSlice;
 use command_line::files::DEFAULT_PATH;
 use mailmap_report::kinds::{Kind, Level};
 use mailmap_report::settings::{Format, Settings};
-use std::alloc::Global;
+use std::alloc::{AllocError, Global};
 use std::vec::IntoIter;
 
 /// The kinds of arguments where an option can stand.
@@ -49,37 +49,9 @@ pub fn request_of(alloc: Global, arguments: Vec<Vec<u8>>) -> Result<Request, Par
 {
     let mut words = arguments.into_iter();
     let _program = words.next();
-    read_words(alloc, words)
-}
-
-// Parses arguments without the program's name.
-fn read_words(alloc: Global, mut words: IntoIter<Vec<u8>, Global>) -> Result<Request, ParseError>
-    requires { into_iter_len words ≡ length (into_iter_items words) }
-    ensures { IsAsked result (asked (texts (into_iter_items words))) }
-{
     let mut request = Request::new(alloc, Mode::Verify);
-    while let Some(argument) = words.next() {
-        match word_of(argument.as_slice()) {
-            Word::Mode(mode) => request = request.with_mode(mode, Vec::new(alloc), argument)?,
-            Word::Next(setting) => {
-                let Some(value) = words.next() else {
-                    return Err(request.without_value(setting, argument));
-                };
-                request = request.with_setting(setting, argument, value)?;
-            }
-            Word::Joined(setting) => {
-                let (_, value) = parts(argument.as_slice());
-                let value = Vec::from_slice(alloc, value.unwrap_or(&[]))?;
-                request = request.with_setting(setting, argument, value)?;
-            }
-            Word::Path => request.paths.push(argument)?,
-            Word::InPlace => request.in_place = true,
-            Word::End => return request.with_paths(words),
-            Word::Alone(mode) => return Ok(Request::new(alloc, mode)),
-            Word::Unknown => return Err(ParseError::UnknownOption(argument)),
-        }
-    }
-    request.ended()
+    request.read(alloc, words)?;
+    Ok(request)
 }
 
 impl Request {
@@ -96,57 +68,89 @@ impl Request {
         }
     }
 
-    fn with_mode(
-        mut self,
-        mode: Mode,
-        contacts: Vec<u8>,
-        option: Vec<u8>,
-    ) -> Result<Request, ParseError>
-        ensures { IsAsked result (with_mode (wanted_of self) mode contacts.items option.items) }
+    // Parses arguments without the program's name.
+    fn read(
+        &mut self,
+        alloc: Global,
+        mut words: IntoIter<Vec<u8>, Global>,
+    ) -> Result<(), ParseError>
+        requires { into_iter_len words ≡ length (into_iter_items words) }
+        ensures { IsAnswer (λ _. wanted_of self.new) result
+            (asked_in (texts (into_iter_items words)) (wanted_of self.old) None) }
+    {
+        while let Some(argument) = words.next() {
+            match word_of(argument.as_slice()) {
+                Word::Mode(mode) => self.set_mode(mode, Vec::new(alloc), argument)?,
+                Word::Next(setting) => {
+                    let Some(value) = words.next() else {
+                        return Err(self.without_value(setting, argument));
+                    };
+                    self.set(setting, argument, value)?;
+                }
+                Word::Joined(setting) => {
+                    let (_, value) = parts(argument.as_slice());
+                    let value = Vec::from_slice(alloc, value.unwrap_or(&[]))?;
+                    self.set(setting, argument, value)?;
+                }
+                Word::Path => self.paths.push(argument)?,
+                Word::InPlace => self.in_place = true,
+                Word::End => return self.end_with(words),
+                Word::Alone(mode) => {
+                    *self = Request::new(alloc, mode);
+                    return Ok(());
+                }
+                Word::Unknown => return Err(ParseError::UnknownOption(argument)),
+            }
+        }
+        self.end()
+    }
+
+    fn set_mode(&mut self, mode: Mode, contacts: Vec<u8>, option: Vec<u8>) -> Result<(), ParseError>
+        ensures { IsAnswer (λ _. wanted_of self.new) result
+            (with_mode (wanted_of self.old) mode contacts.items option.items) }
     {
         if self.mode != Mode::Verify {
             return Err(ParseError::SecondMode(option));
         }
         self.mode = mode;
         self.contacts = contacts;
-        self.checked()
+        self.check()
     }
 
-    fn with_setting(
-        mut self,
-        setting: Setting,
-        option: Vec<u8>,
-        value: Vec<u8>,
-    ) -> Result<Request, ParseError>
-        ensures { IsAsked result (with_setting (wanted_of self) setting option.items value.items) }
+    fn set(&mut self, setting: Setting, option: Vec<u8>, value: Vec<u8>) -> Result<(), ParseError>
+        ensures { IsAnswer (λ _. wanted_of self.new) result
+            (with_setting (wanted_of self.old) setting option.items value.items) }
     {
         match setting {
-            Setting::Contacts => self.with_mode(Mode::Contacts, value, option),
-            Setting::Suggest => self.with_mode(Mode::Suggest, value, option),
+            Setting::Contacts => self.set_mode(Mode::Contacts, value, option),
+            Setting::Suggest => self.set_mode(Mode::Suggest, value, option),
             Setting::Severity => {
                 let Some(level) = level_named(value.as_slice()) else {
                     return Err(ParseError::UnknownValue(setting, value));
                 };
                 self.settings.severity = Some(level);
-                self.checked()
+                self.check()
             }
-            Setting::Exclude => self.with_excluded(value),
+            Setting::Exclude => {
+                push_kinds(&mut self.settings.excluded, value.as_slice())?;
+                self.check()
+            }
             Setting::Format => {
                 let Some(format) = format_named(value.as_slice()) else {
                     return Err(ParseError::UnknownValue(setting, value));
                 };
                 self.settings.format = Some(format);
-                self.checked()
+                self.check()
             }
             Setting::StdinName => {
                 self.settings.stdin_name = Some(value);
-                self.checked()
+                self.check()
             }
         }
     }
 
-    fn without_value(self, setting: Setting, option: Vec<u8>) -> ParseError
-        ensures { IsAsked (Err result) (Err (without_value (wanted_of self) setting option.items)) }
+    fn without_value(&self, setting: Setting, option: Vec<u8>) -> ParseError
+        ensures { IsAsked (Err result) (Err (without_value (wanted_of self.now) setting option.items)) }
     {
         let names_mode = setting == Setting::Contacts || setting == Setting::Suggest;
         if names_mode && self.mode != Mode::Verify {
@@ -155,59 +159,49 @@ impl Request {
         ParseError::NoValue(setting, option)
     }
 
-    fn with_excluded(mut self, value: Vec<u8>) -> Result<Request, ParseError>
-        ensures { IsAsked result (with_excluded (wanted_of self) value.items) }
-    {
-        for name in value.as_slice().split_str(b",") {
-            let Some(kind) = Kind::of_name(name) else {
-                let name = Vec::from_slice(*value.allocator(), name)?;
-                return Err(ParseError::UnknownValue(Setting::Exclude, name));
-            };
-            self.settings.excluded.push(kind)?;
-        }
-        self.checked()
-    }
-
-    fn with_paths(mut self, words: IntoIter<Vec<u8>, Global>) -> Result<Request, ParseError>
+    // Takes all words as paths.
+    fn end_with(&mut self, words: IntoIter<Vec<u8>, Global>) -> Result<(), ParseError>
         requires { into_iter_len words ≡ length (into_iter_items words) }
-        ensures { IsAsked result (ended (with_paths (wanted_of self) (texts (into_iter_items words)))) }
+        ensures { IsAnswer (λ _. wanted_of self.new) result
+            (ended (with_paths (wanted_of self.old) (texts (into_iter_items words)))) }
     {
         for word in words {
             self.paths.push(word)?;
         }
-        self.ended()
+        self.end()
     }
 
     // What is asked for after all arguments. `--in-place` needs `--prune`, and makes another mode of it.
-    fn ended(mut self) -> Result<Request, ParseError>
-        ensures { IsAsked result (ended (wanted_of self)) }
+    fn end(&mut self) -> Result<(), ParseError>
+        ensures { IsAnswer (λ _. wanted_of self.new) result (ended (wanted_of self.old)) }
     {
-        if !self.in_place {
-            return self.finished();
+        if self.in_place {
+            if self.mode != Mode::Prune {
+                return Err(ParseError::InPlaceAlone);
+            }
+            self.mode = Mode::PruneInPlace;
+            self.check()?;
         }
-        if self.mode != Mode::Prune {
-            return Err(ParseError::InPlaceAlone);
-        }
-        self.mode = Mode::PruneInPlace;
-        self.checked()?.finished()
+        self.finish()?;
+        Ok(())
     }
 
     // Makes a single `-` standard input, if that can be the mailmap. Without a path, the mailmap is git's own.
-    fn finished(mut self) -> Result<Request, ParseError>
-        ensures { IsAsked result (Ok (finished (wanted_of self))) }
+    fn finish(&mut self) -> Result<(), AllocError>
+        ensures { OnOk result (wanted_of self.new ≡ finished (wanted_of self.old)) }
     {
         if can_be_mailmap(self.mode, self.contacts.as_slice())
             && is_only_dash(self.paths.as_slice())
         {
             self.paths.clear();
-            return Ok(self);
+            return Ok(());
         }
         if takes_default(self.mode) && self.paths.is_empty() {
             let path = Vec::from_slice(*self.contacts.allocator(), DEFAULT_PATH)?;
             self.paths.push(path)?;
             self.by_default = true;
         }
-        Ok(self)
+        Ok(())
     }
 
     /// Whether the mailmap is git's own, if it is there.
@@ -246,12 +240,12 @@ impl Request {
     }
 
     // Whether the mode uses all the settings.
-    fn checked(self) -> Result<Request, ParseError>
-        ensures { IsAsked result (checked (wanted_of self)) }
+    fn check(&self) -> Result<(), ParseError>
+        ensures { IsAnswer (λ _. wanted_of self.now) result (checked (wanted_of self.now)) }
     {
         match self.unused_setting() {
             Some(setting) => Err(ParseError::Unused(self.mode, setting)),
-            None => Ok(self),
+            None => Ok(()),
         }
     }
 
@@ -269,6 +263,20 @@ impl Request {
             _ => None,
         }
     }
+}
+
+// Appends the kinds with these names, which are separated by commas.
+fn push_kinds(kinds: &mut Vec<Kind>, names: &[u8]) -> Result<(), ParseError>
+    ensures { IsAnswer (λ _. kinds.new.items) result (kinds_after kinds.old.items (names_in names.now)) }
+{
+    for name in names.split_str(b",") {
+        let Some(kind) = Kind::of_name(name) else {
+            let name = Vec::from_slice(*kinds.allocator(), name)?;
+            return Err(ParseError::UnknownValue(Setting::Exclude, name));
+        };
+        kinds.push(kind)?;
+    }
+    Ok(())
 }
 
 // Whether the mode prints findings.

@@ -1,23 +1,22 @@
 //! Parses lines, computes each line's findings, and copies the lines that pruning keeps.
 ghost use Rattle.std.specs.Prelude.{◌≡◌, ◌∷◌, [], map, filter, unwrap_or, IfOk};
-ghost use Rattle.std.specs.Iterator.{YieldsFirstBy, item_count};
+ghost use Rattle.std.specs.Iterator.{YieldsFirstBy};
 ghost use Rattle.std.specs.List.{flat_map};
 ghost use Rattle.std.specs.List.Sorted.{IsStrictlySortedBy};
-ghost use Rattle.std.specs.Option.{option_and_then, option_copied, option_map};
+ghost use Rattle.std.specs.Option.{option_copied, option_map};
 ghost use Rattle.mailmap_entries.specs.Entries.{mapping_of};
 ghost use Rattle.mailmap_grammar.specs.Lines.{is_comment, strict_reading};
 ghost use Rattle.mailmap_redundancy.specs.Redundancy.{entries, position_cmp};
-ghost use Rattle.mailmap_findings.specs.Findings.{finding_of, findings, git_reads, first_read_otherwise as spec_first, is_line_kept, kind_of};
-ghost use Rattle.mailmap_findings.specs.Findings.{reported_mark, reported_of_effect as spec_effect, reported_of_names as spec_names};
+ghost use Rattle.mailmap_findings.specs.Findings.{first_read_otherwise as spec_first, has_comment, is_line_kept, kind_of};
+ghost use Rattle.mailmap_findings.specs.Findings.{reported_of_effect as spec_effect, reported_of_line};
 ghost use Rattle.mailmap_findings.specs.Findings.{reported_of_reading as spec_reported};
-ghost use Rattle.mailmap_findings.specs.Git.{read_in_place};
 ghost use Rattle.mailmap_findings.specs.Marks.{unmarked as spec_unmarked};
 ghost use Rattle.mailmap_findings.specs.Positions.{entry as spec_entry, has_entry_at, line_of, located_lines};
 
-use crate::git::read_in_place_of;
+use crate::git::{GitReading, read_in_place_of};
+use crate::verify::FindingKind;
 use crate::verify::effects::{reported_of_proper, reported_without_effect};
 use crate::verify::lines::{BufferLines, Line, text_after_mark};
-use crate::verify::{Finding, FindingKind};
 use mailmap_entries::Entry;
 use mailmap_grammar::contacts::{non_empty, trim};
 use mailmap_grammar::lines::{Strictness, read_line};
@@ -70,69 +69,78 @@ pub fn first_read_otherwise(buffers: &[&[u8]]) -> Option<Position>
     None
 }
 
-/// The findings of a line: a byte order mark, and those of the line without it.
+/// The kinds of a line's findings that are left: a byte order mark, and those of the line without it.
 ///
-/// Contracts see it as the list of the remaining findings.
+/// Contracts see it as the list of these kinds.
 #[derive(Drop)]
-pub(crate) struct LineFindings<'a> {
-    pub(crate) of_mark: Option<Finding<'a>>,
-    pub(crate) of_text: Option<Finding<'a>>,
-    pub(crate) of_names: Option<Finding<'a>>,
-    pub(crate) of_git: Option<Finding<'a>>,
-    pub(crate) of_entry: Option<Finding<'a>>,
+pub(crate) struct LineKinds<'a> {
+    is_marked: bool,
+    of_text: Option<FindingKind<'a>>,
+    has_comment: bool,
+    of_git: Option<GitReading<'a>>,
+    of_entry: Option<FindingKind<'a>>,
 }
 
-impl<'a> Model for LineFindings<'a> {
-    ghost use Rattle.std.specs.Prelude.{◌++◌, List, option_to_list};
+impl<'a> Model for LineKinds<'a> {
+    ghost use Rattle.std.specs.Prelude.{◌∷◌, [], List};
     ghost use Rattle.std.specs.Option.{option_map};
-    ghost use Rattle.mailmap_findings.specs.Findings.{Finding, finding_of};
+    ghost use Rattle.mailmap_findings.specs.Findings.{FindingKind, byte_order_mark, comment_in_line, git_reads, given, kind_of, some_if};
+    ghost use Rattle.mailmap_findings.specs.Git.{git_reading_of};
 
-    ghost Value = { List Finding };
+    ghost Value = { List FindingKind };
 
-    ghost view = { λ s. option_to_list (option_map finding_of s.of_mark)
-        ++ option_to_list (option_map finding_of s.of_text) ++ option_to_list (option_map finding_of s.of_names)
-        ++ option_to_list (option_map finding_of s.of_git) ++ option_to_list (option_map finding_of s.of_entry) };
+    ghost view = { λ s. given (some_if s.is_marked byte_order_mark ∷ option_map kind_of s.of_text
+        ∷ some_if s.has_comment comment_in_line ∷ option_map (λ r. git_reads (git_reading_of r)) s.of_git
+        ∷ option_map kind_of s.of_entry ∷ []) };
 }
 
-impl<'a> Iterator for LineFindings<'a> {
-    type Item = Finding<'a>;
-
-    ghost next_gives = { YieldsFirstBy finding_of (λ s. s) };
-
-    ghost remaining = { item_count (λ s. s) };
-
-    fn next(&mut self) -> Option<Finding<'a>> {
-        if let Some(finding) = self.of_mark.take() {
-            return Some(finding);
+impl<'a> LineKinds<'a> {
+    pub(crate) fn none() -> LineKinds<'a>
+        ensures { result ≡ [] }
+    {
+        LineKinds {
+            is_marked: false,
+            of_text: None,
+            has_comment: false,
+            of_git: None,
+            of_entry: None,
         }
-        if let Some(finding) = self.of_text.take() {
-            return Some(finding);
+    }
+
+    /// Computes the kinds of a line's findings.
+    pub(crate) fn of(effective: &Effective<'_, 'a>, line: &Line<'a>) -> LineKinds<'a>
+        requires { IsStrictlySortedBy position_cmp (map (λ x. x.position) effective.now.kept) }
+        ensures { result ≡ reported_of_line (entries effective.now.history) effective.now.kept (line_of line.now) }
+    {
+        let unmarked = unmarked(line);
+        let (of_text, entry) = finding_and_entry(&unmarked);
+        LineKinds {
+            is_marked: text_after_mark(line).is_some(),
+            of_text,
+            has_comment: has_comment(entry),
+            of_git: read_in_place_of(entry, unmarked.text),
+            of_entry: reported_of_effect(effective, line, entry),
         }
-        if let Some(finding) = self.of_names.take() {
-            return Some(finding);
+    }
+
+    pub(crate) fn next(&mut self) -> Option<FindingKind<'a>>
+        ensures { YieldsFirstBy kind_of (λ s. s) self.old result self.new }
+    {
+        if self.is_marked {
+            self.is_marked = false;
+            return Some(FindingKind::ByteOrderMark);
         }
-        if let Some(finding) = self.of_git.take() {
-            return Some(finding);
+        if let Some(kind) = self.of_text.take() {
+            return Some(kind);
+        }
+        if self.has_comment {
+            self.has_comment = false;
+            return Some(FindingKind::CommentInLine);
+        }
+        if let Some(reading) = self.of_git.take() {
+            return Some(FindingKind::GitReads(reading));
         }
         self.of_entry.take()
-    }
-}
-
-/// Computes the findings of a line.
-pub(crate) fn line_findings<'a>(effective: &Effective<'_, 'a>, line: &Line<'a>) -> LineFindings<'a>
-    requires { IsStrictlySortedBy position_cmp (map (λ x. x.position) effective.now.kept) }
-    ensures { result ≡ findings (entries effective.now.history) effective.now.kept (line_of line.now) }
-{
-    let unmarked = unmarked(line);
-    let (of_text, entry) = finding_and_entry(&unmarked);
-    let of_git = reported_of_git(entry, unmarked.text);
-    let of_entry = reported_of_effect(effective, line, entry);
-    LineFindings {
-        of_mark: finding_at(line.position, reported_mark(line)),
-        of_text: finding_at(line.position, of_text),
-        of_names: finding_at(line.position, reported_of_names(entry)),
-        of_git: finding_at(line.position, of_git),
-        of_entry: finding_at(line.position, of_entry),
     }
 }
 
@@ -144,13 +152,6 @@ fn unmarked<'a>(line: &Line<'a>) -> Line<'a>
         position: line.position,
         text: text_after_mark(line).unwrap_or(line.text),
     }
-}
-
-fn reported_mark<'a>(line: &Line<'_>) -> Option<FindingKind<'a>>
-    ensures { option_map kind_of result ≡ reported_mark (line_of line.now) }
-{
-    text_after_mark(line)?;
-    Some(FindingKind::ByteOrderMark)
 }
 
 // Reports what the entry of a line does. `unmarked` is the entry of the line without a byte order mark.
@@ -183,39 +184,20 @@ fn own_entry<'a>(line: &Line<'a>, unmarked: Option<Entry<'a>>) -> Option<Entry<'
     }
 }
 
-// Reports a new name or an old one that begins with `#`.
-fn reported_of_names<'a>(entry: Option<Entry<'_>>) -> Option<FindingKind<'a>>
-    ensures { option_map kind_of result ≡ option_and_then spec_names (option_map mapping_of entry.entry) }
+// Whether a new name or an old one begins with `#`.
+fn has_comment(entry: Option<Entry<'_>>) -> bool
+    ensures { result ≡ has_comment (option_map mapping_of entry.entry) }
 {
-    let entry = entry?;
-    if begins_like_comment(entry.new_name()) || begins_like_comment(entry.old_name()) {
-        return Some(FindingKind::CommentInLine);
-    }
-    None
+    let Some(entry) = entry else {
+        return false;
+    };
+    begins_comment(entry.new_name()) || begins_comment(entry.old_name())
 }
 
-fn reported_of_git<'a>(entry: Option<Entry<'_>>, line: &'a [u8]) -> Option<FindingKind<'a>>
-    ensures { option_map kind_of result
-        ≡ option_map git_reads (read_in_place (option_map mapping_of entry.entry) line.now) }
-{
-    read_in_place_of(entry, line).map(FindingKind::GitReads)
-}
-
-fn begins_like_comment(name: Option<&[u8]>) -> bool
+fn begins_comment(name: Option<&[u8]>) -> bool
     ensures { result ≡ is_comment (unwrap_or (option_copied name.entry) []) }
 {
-    match name {
-        Some([b'#', ..]) => true,
-        _ => false,
-    }
-}
-
-fn finding_at<'a>(position: Position, kind: Option<FindingKind<'a>>) -> Option<Finding<'a>>
-    ensures { option_map finding_of result
-        ≡ option_map (λ t. record { position = position; kind = t }) (option_map kind_of kind.entry) }
-{
-    let kind = kind?;
-    Some(Finding { position, kind })
+    matches!(name, Some([b'#', ..]))
 }
 
 /// Copies the lines of a buffer that have no entry or an effective one.

@@ -1,8 +1,0 @@
--- The bytes so far are appended.
-use Rattle.std.proofs.Common.{◌≡◌, ◌++◌, take}
-use Rattle.std.specs.List.{flat_map}
-use Rattle.mailmap_report.specs.Github.{data_byte}
-use Rattle.mailmap_report.proofs.github.push_data_bytes.Given as goal
-
-abbrev pub invariant-loop-byte : goal.invariant-loop-byte
-invariant-loop-byte l = l.line.items ≡ l.fn.line.items ++ flat_map data_byte (take l.byte-index l.bytes)
