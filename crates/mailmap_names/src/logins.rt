@@ -8,6 +8,8 @@ ghost use Rattle.mailmap_names.specs.Logins.{without_number, without_tag};
 
 use bstr::ByteSlice;
 
+// Logins that many people have. `hi` and those that are placeholders of names, too, make no keys anyway: they are here so
+// that the list is whole.
 const GENERIC_LOGINS: [&[u8]; 31] = [
     b"root",
     b"admin",

@@ -1,22 +1,16 @@
 -- What the code keeps of appended entries: what these change for one old email.
-use Rattle.std.proofs.Common.{◌≡◌, Bool, true, false, List, [], ◌∷◌, Option, Some, None, if◌then◌else◌, unwrap_or, option_map, refl, sym, ap, ◌∙◌, rules, ◌≢◌, ◌⊎◌, inl, inr, cond, filter, true≢false, ◌&&◌, ◌||◌, ◌++◌, is_none, append-nil, is_some, bytes_eq, Bor, not, append_assoc, subst, arith, map, IfSome}
+use Rattle.std.proofs.Common.{◌≡◌, true, false, List, [], ◌∷◌, Option, Some, refl, sym, rules, cond, ◌&&◌, ◌++◌, is_some, bytes_eq, Bor, arith}
 use Rattle.std.specs.Option.{option_or, option_copied}
 use Rattle.mailmap_entries.specs.Entries.{Mapping}
-use Rattle.mailmap_entries.specs.Folding.{Text, folded, text_cmp}
-use Rattle.mailmap_entries.specs.Semantics.{Fields, first, given_fields, last, last_fields, last_given, new_fields, no_fields, of_email, of_key, spelling, Key, accepted, is_accepted, key, key_cmp}
-use Rattle.mailmap_entries.proofs.Building.{same_text, same_key}
-use Rattle.mailmap_entries.proofs.Reorder.{by_email, of_name}
+use Rattle.mailmap_entries.specs.Folding.{Text, folded}
+use Rattle.mailmap_entries.specs.Semantics.{given_fields, last_fields, new_fields, is_accepted}
+use Rattle.mailmap_entries.proofs.Building.{same_text}
 use Rattle.mailmap_contacts.specs.Contacts.{Contact, answer_to, same_contact}
-use Rattle.std.specs.List.{AllByRecursion, flat_map, list_any}
-use Rattle.std.specs.Ordering.{eq_by_cmp}
-use Rattle.mailmap_entries.proofs.Parts.{all_apply, all_last, all_weaker, last_of_one, all_append}
-use Rattle.mailmap_suggestions.specs.GroupEntries.{HasNoEmptyName}
-use Rattle.mailmap_contacts.proofs.Steps.{all_filtered, all_unfiltered}
-use Rattle.mailmap_entries.proofs.Alike.{first_parts, given_parts, last_parts, picked-append}
+use Rattle.mailmap_entries.proofs.Parts.{last_of_one}
 use Rattle.mailmap_suggestions.specs.Private.{fields_to, AreChangesBy, IsPlain, after, are_enough, given_in}
-use Rattle.mailmap_suggestions.specs.Forms.{Histories, IsAnswered, git_answer_to, is_answered, own_key, plus, alike, are_answered, distinct, entries_for_email, entries_to, has_own_entry, is_short_enough, long_form, name_unless_empty, named_entries, named_form, of_old_email, plain_entries, short_form}
-use Rattle.mailmap_entries.proofs.Joined.{never, filter_none}
-use Rattle.std.proofs.lemmas.Bool.{or_right, false_from_ne_true, and_parts}
+use Rattle.mailmap_suggestions.specs.Forms.{Histories, git_answer_to, is_answered, own_key, plus, name_unless_empty, named_form}
+use Rattle.mailmap_entries.proofs.Joined.{never}
+use Rattle.std.proofs.lemmas.Bool.{or_right}
 use Rattle.std.specs.BTreeMap.{is_at}
 use Rattle.std.specs.BTreeSet.{contains}
 use Rattle.std.proofs.lemmas.Map.Text.{is_eq-slice_cmp}
@@ -24,8 +18,6 @@ use Rattle.mailmap_contacts.specs.Answers.{folded_cmp, tally_of}
 use Rattle.mailmap_contacts.specs.declared.answers.Tally.{Tally as TheTally}
 use Rattle.mailmap_contacts.specs.declared.folded.Folded.{Folded}
 use Rattle.mailmap_suggestions.specs.declared.changes.Changes.{Changes}
-use Rattle.mailmap_suggestions.proofs.Distinct.{◌∈◌, equal_bytes, all_among, all_joined, all_of, at, each, in_filter, kept_part, same_bytes}
-use Rattle.std.proofs.lemmas.Grind.{common_steps}
 use Rattle.mailmap_suggestions.proofs.Appended.{answer_is, git_is, given_joined, last_joined, no_given, no_own, none_of_key, one_of_key, own_fields, spelled, spelling_joined}
 
 -- ==== answers after appended entries, by what these change for the contact's old email

@@ -1,5 +1,5 @@
 -- Answers that are counted, lines of entries that git would cut, and last bytes.
-use Rattle.std.proofs.Common.{◌≡◌, ◌∙◌, ◌<◌, ◌≤◌, ◌+◌, ◌-◌, ◌++◌, ◌==◌, ◌⊎◌, ◌^◌, ℕ, suc, Bool, true, false, List, [], ◌∷◌, Bor, Option, Some, ap, arith, if◌then◌else◌, length, length-append, map, option_map, refl, slice_get, sym, ⊎_elim}
+use Rattle.std.proofs.Common.{◌≡◌, ◌∙◌, ◌<◌, ◌≤◌, ◌+◌, ◌-◌, ◌++◌, ◌==◌, ◌^◌, ℕ, suc, Bool, true, false, List, [], ◌∷◌, Bor, Option, ap, arith, if◌then◌else◌, length, length-append, map, option_map, refl, slice_get, sym, ⊎_elim}
 use Rattle.std.specs.Prelude.{nat_lt, unwrap_or}
 use Rattle.std.proofs.lemmas.Bool.{cases_lt, le-ltb, lt-ltb}
 use Rattle.mailmap_contacts.specs.Contacts.{Tally}

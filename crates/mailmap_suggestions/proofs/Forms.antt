@@ -11,11 +11,12 @@ use Rattle.mailmap_entries.specs.Folding.{Text, folded}
 use Rattle.mailmap_entries.specs.declared.entry.Entry.{Entry}
 use Rattle.mailmap_entries.proofs.Parts.{filter-map, all_map, all_mapped, all_weaker, filter_all, map_alike, filter-filter}
 use Rattle.mailmap_contacts.specs.Answers.{tally_of, tally_at}
-use Rattle.mailmap_contacts.specs.Contacts.{Contact, Tally, answer_to}
+use Rattle.mailmap_contacts.specs.Contacts.{Contact, Tally, answer_to, answered}
 use Rattle.mailmap_contacts.specs.declared.answers.Tally.{Tally as TheTally}
 use Rattle.mailmap_contacts.proofs.Steps.{all_filtered}
 use Rattle.mailmap_suggestions.specs.Private.{AreChangesBy, HaveEmail, HaveOneEmail, listed, IsPart, IsPlain, are_enough, contacts_of, tallies_in, grouped, keyed_by, keys, members, text_of}
 use Rattle.mailmap_suggestions.specs.Forms.{Histories, are_answered, distinct, entries_for_email, entries_to, fits, is_answered, long_form, name_unless_empty, named_entries, named_form, needs_own_entry, of_old_email, plain_entries, plus, short_form}
+use Rattle.mailmap_suggestions.specs.Counted.{git_answered}
 use Rattle.mailmap_suggestions.specs.GroupEntries.{are_alike, are_cut, classes, contacts, contact_or_nobody, group_entries, members as class_members, nobody, proper_answer, wanted_entries}
 use Rattle.mailmap_suggestions.specs.declared.changes.Changes.{Changes}
 use Rattle.mailmap_suggestions.proofs.Distinct.{all_of, same_bytes, all_joined, somes}
@@ -273,3 +274,13 @@ entries_in history now items is same = ap entries (is ∙ ap (map located_of) sa
 pub groups_accepted : (shared : List Text) (base h : Histories) (gs : List (List Tally)) → accepted (flat_map (group_entries shared base h) gs) ≡ flat_map (group_entries shared base h) gs
 groups_accepted shared base h gs = filter_all is_accepted (flat_map (group_entries shared base h) gs)
     (all_joined (λ e. is_accepted e ≡ true) (group_entries shared base h) gs (all_of (λ g. AreAccepted (group_entries shared base h g)) (group_accepted shared base h) gs))
+
+-- ---- without entries
+
+-- a contact is its own answer
+pub unanswered : (h : List Mapping) (t : Tally) → h ≡ [] → t ≡ answered h t
+unanswered h t none = ap (λ h. answered h t) (sym none)
+
+-- in git, too
+pub git_unanswered : (h : Histories) (t : Tally) → h.gits ≡ [] → t ≡ git_answered h t
+git_unanswered h t none = ap (λ g. git_answered (record { ours = h.ours; gits = g }) t) (sym none)

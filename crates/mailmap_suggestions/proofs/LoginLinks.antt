@@ -1,7 +1,7 @@
 -- The keys of names and logins, with the answers that have them, and the links of answers by these.
-use Rattle.std.proofs.Common.{◌≡◌, ◌∙◌, ◌&&◌, ◌||◌, ◌++◌, ℕ, Bool, true, false, not, List, [], ◌∷◌, Option, None, Some, ap, arith, bytes_eq, filter, flat_map, if◌then◌else◌, map, refl, sym, subst}
+use Rattle.std.proofs.Common.{◌≡◌, ◌∙◌, ◌&&◌, ◌||◌, ◌++◌, ℕ, Bool, true, false, not, List, [], ◌∷◌, Option, None, Some, ap, arith, bytes_eq, filter, flat_map, if◌then◌else◌, is_some, length, map, refl, sym, subst}
 use Rattle.std.specs.List.{list_any}
-use Rattle.std.proofs.lemmas.Bool.{and_parts}
+use Rattle.std.proofs.lemmas.Bool.{and_from, and_parts, false_from_ne_true}
 use Rattle.std.proofs.lemmas.Cmp.{nat_list_eq_equiv}
 use Rattle.std.proofs.lemmas.List.{map-append}
 use Rattle.std.proofs.lemmas.List.Folds.{flat_map-map}
@@ -16,13 +16,13 @@ use Rattle.mailmap_names.specs.Keys.{first_words, is_among, keys}
 use Rattle.mailmap_suggestions.specs.Forms.{Histories}
 use Rattle.mailmap_suggestions.specs.Links.{all_name_keys, another_has, answered_by, answers, email_keys, emails_of, first_keys, is_first_name}
 use Rattle.mailmap_suggestions.specs.Links.{login_marks, mail_keys, name_keys, names_of, participants, takes_part}
-use Rattle.mailmap_suggestions.specs.LinkViews.{AreLinksOf, AreLoginKeys, AreMembers, HoldersOf, all_login_links_of, answer_in, contact_in, has_own}
-use Rattle.mailmap_suggestions.specs.LinkViews.{holder_of, is_another, is_login_in, is_name_in, is_several, links_to, login_links_of, pairs_by, with_answer}
+use Rattle.mailmap_suggestions.specs.LinkViews.{AreLinksOf, AreLoginKeys, AreMembers, HoldersOf, all_login_links_of, answer_in, contact_in, has_key, has_own}
+use Rattle.mailmap_suggestions.specs.LinkViews.{holder_of, is_another, is_login_in, is_name_in, is_several, known_email_keys, links_to, login_links_of, pairs_by, with_answer}
 use Rattle.mailmap_suggestions.specs.declared.holders.Holder.{Holder}
 use Rattle.mailmap_suggestions.specs.declared.holders.Holders.{Holders}
 use Rattle.mailmap_suggestions.specs.declared.links.LoginKeys.{LoginKeys}
 use Rattle.mailmap_suggestions.specs.declared.members.Member.{Member}
-use Rattle.mailmap_suggestions.proofs.Distinct.{all_of, same_bytes}
+use Rattle.mailmap_suggestions.proofs.Distinct.{◌∈◌, all_of, same_bytes}
 use Rattle.mailmap_suggestions.proofs.ListTests.{and_any, any_alike, any_and, any_filter, any_in, any_joined, any_of, any_pair}
 use Rattle.mailmap_suggestions.proofs.MemberMarks.{all_parts, are_links, is_same, links_by, parts_among, parts_of}
 
@@ -54,6 +54,23 @@ any_tallied passes (t ∷ ts) = by (passes t.contact) refl (any_tallied passes t
         ∙ rest
 
 -- ==== keys with the answers that have them
+
+among_filter : (passes : Text → Bool) (mark : Text) (xs : List Text) → is_among (filter passes xs) mark ≡ (passes mark && is_among xs mark)
+among_filter passes mark xs = any-filter_same (λ t. bytes_eq t mark) passes (passes mark) (λ t is. ap passes (same_bytes t mark is)) xs
+
+-- another contact than this one
+abbrev other_than : Contact → Contact
+other_than a = record { name = 0 ∷ a.name; email = a.email }
+
+is_other : (a : Contact) → same_contact a (other_than a) ≡ false
+is_other a = ap (λ t. t && bytes_eq a.email a.email) (false_from_ne_true (bytes_eq a.name (0 ∷ a.name)) (λ same. longer (ap length (same_bytes a.name (0 ∷ a.name) same))))
+  where
+    longer : length a.name ≡ length (0 ∷ a.name) → ⊥
+    longer e = omega arith
+
+some_is : (o : Option Holder) (a : Contact) → is_another o a ≡ true → is_some o ≡ true
+some_is None a is = is
+some_is (Some holder) a is = refl
 
 -- whether a key is that of an answer, and of another one
 several_is : (has : Contact → Bool) (xs : List Contact) (o : Option Holder) → ((a : Contact) → is_another o a ≡ list_any (λ b. not (same_contact b a) && has b) xs)
@@ -177,11 +194,28 @@ module _ (h : Histories) (ts : List Tally) (ms : List Member) (are : AreMembers 
         holders_are (λ c. keys c.name) (takes_part shared h ts) key a found (subst (λ l. HoldersOf (flat_map (pairs_by (λ c. keys c.name)) l) found) taken all)
         ∙ (λ i. another_has (λ b. of_names keys b i) (participants shared h ts) a key)
 
-    logins_are : (found : Holders) → HoldersOf (flat_map (pairs_by (λ c. email_keys shared c.email)) ps) found → (key : Text) (a : Contact)
-        → is_another (holder_of found key) a ≡ another_has (mail_keys shared h ts) (participants shared h ts) a key
-    logins_are found all key a =
-        holders_are (λ c. email_keys shared c.email) (takes_part shared h ts) key a found (subst (λ l. HoldersOf (flat_map (pairs_by (λ c. email_keys shared c.email)) l) found) taken all)
-        ∙ (λ i. another_has (λ b. of_emails (email_keys shared) b i) (participants shared h ts) a key)
+    -- of keys that names have
+    logins_are : (names found : Holders) → HoldersOf (flat_map (pairs_by (λ c. known_email_keys shared names c.email)) ps) found → (key : Text) (a : Contact)
+        → has_key names key ≡ true → is_another (holder_of found key) a ≡ another_has (mail_keys shared h ts) (participants shared h ts) a key
+    logins_are names found all key a known =
+        holders_are (λ c. known_email_keys shared names c.email) (takes_part shared h ts) key a found (subst (λ l. HoldersOf (flat_map (pairs_by (λ c. known_email_keys shared names c.email)) l) found) taken all)
+        ∙ (λ i. another_has (λ b. of_emails (known_email_keys shared names) b i) (participants shared h ts) a key)
+        ∙ any_alike (λ b. not (same_contact b a) && is_among (flat_map (known_email_keys shared names) (emails_of h ts b)) key)
+        (λ b. not (same_contact b a) && is_among (mail_keys shared h ts b) key) (participants shared h ts)
+        (all_of (λ b. (not (same_contact b a) && is_among (flat_map (known_email_keys shared names) (emails_of h ts b)) key)
+        ≡ (not (same_contact b a) && is_among (mail_keys shared h ts b) key))
+        (λ b. ap (λ t. not (same_contact b a) && t) (among_known (emails_of h ts b))) (participants shared h ts))
+      where
+        is_key : Text → Bool
+        is_key t = bytes_eq t key
+
+        among_known : (emails : List Text) → is_among (flat_map (known_email_keys shared names) emails) key ≡ is_among (flat_map (email_keys shared) emails) key
+        among_known emails =
+            any_joined is_key (known_email_keys shared names) emails
+            ∙ any_alike (λ email. is_among (known_email_keys shared names email) key) (λ email. is_among (email_keys shared email) key) emails
+            (all_of (λ email. is_among (known_email_keys shared names email) key ≡ is_among (email_keys shared email) key)
+            (λ email. among_filter (has_key names) key (email_keys shared email) ∙ ap (λ t. t && is_among (email_keys shared email) key) known) emails)
+            ∙ sym (any_joined is_key (email_keys shared) emails)
 
     first_names_are : (found : Holders) → HoldersOf (flat_map (pairs_by (λ c. first_words c.name)) (filter (λ m. mailed (answer_in m)) ms)) found
         → (key : Text) → is_several (holder_of found key) ≡ is_first_name h ts key
@@ -191,12 +225,12 @@ module _ (h : Histories) (ts : List Tally) (ms : List Member) (are : AreMembers 
         ∙ (λ i. another_has (λ b. of_names first_words b i) (filter mailed (answers h ts)) a key))
 
     pub keys_are : (found : LoginKeys) → HoldersOf (flat_map (pairs_by (λ c. keys c.name)) ps) found.names
-        → HoldersOf (flat_map (pairs_by (λ c. email_keys shared c.email)) ps) found.logins
+        → HoldersOf (flat_map (pairs_by (λ c. known_email_keys shared found.names c.email)) ps) found.logins
         → HoldersOf (flat_map (pairs_by (λ c. first_words c.name)) (filter (λ m. mailed (answer_in m)) ms)) found.first_names
         → AreLoginKeys shared h ts found
     keys_are found names logins first_names = record {
       names = names_are found.names names;
-      logins = logins_are found.logins logins;
+      logins = logins_are found.names found.logins logins;
       first_names = first_names_are found.first_names first_names;
     }
 
@@ -208,9 +242,6 @@ module _ (h : Histories) (ts : List Tally) (ms : List Member) (are : AreMembers 
 
       abbrev login_part : Contact → Contact → List Text
       login_part a c = filter (is_login_in found a) (keys c.name) ++ filter (is_name_in found a) (email_keys shared c.email)
-
-      among_filter : (passes : Text → Bool) (mark : Text) (xs : List Text) → is_among (filter passes xs) mark ≡ (passes mark && is_among xs mark)
-      among_filter passes mark xs = any-filter_same (λ t. bytes_eq t mark) passes (passes mark) (λ t is. ap passes (same_bytes t mark is)) xs
 
       -- the keys of names that aren't first names
       among_names : (a : Contact) (mark : Text) → is_among (name_keys h ts a) mark ≡ (not (is_first_name h ts mark) && is_among (all_name_keys h ts a) mark)
@@ -228,8 +259,20 @@ module _ (h : Histories) (ts : List Tally) (ms : List Member) (are : AreMembers 
           moved : (s t u : Bool) → (s && (t && u)) ≡ (t && (s && u))
           moved s t u = grind arith
 
-      login_is : (a : Contact) (mark : Text) → is_login_in found a mark ≡ (not (is_first_name h ts mark) && another_has (mail_keys shared h ts) others a mark)
-      login_is a mark = λ i. not (are_keys.first_names mark i) && are_keys.logins mark a i
+      -- a name of an answer that takes part has its keys
+      is_known : (m : Member) → m ∈ ms → takes_part shared h ts (answer_in m) ≡ true → (mark : Text) → is_among (all_name_keys h ts (answer_in m)) mark ≡ true → has_key found.names mark ≡ true
+      is_known m i takes mark among =
+          let a : Contact = answer_in m in
+          let has : Contact → Bool = λ b. not (same_contact b (other_than a)) && is_among (all_name_keys h ts b) mark in
+          some_is (holder_of found.names mark) (other_than a)
+          (are_keys.names mark (other_than a) ∙ any_filter has (takes_part shared h ts) (answers h ts)
+          ∙ any_answer (λ b. takes_part shared h ts b && has b)
+          ∙ any_in (λ b. takes_part shared h ts (answer_in b) && has (answer_in b)) ms m i
+          (and_from (takes_part shared h ts a) (has a) takes (and_from (not (same_contact a (other_than a))) (is_among (all_name_keys h ts a) mark) (ap not (is_other a)) among)))
+
+      login_is : (a : Contact) (mark : Text) → has_key found.names mark ≡ true
+          → is_login_in found a mark ≡ (not (is_first_name h ts mark) && another_has (mail_keys shared h ts) others a mark)
+      login_is a mark known = λ i. not (are_keys.first_names mark i) && are_keys.logins mark a known i
 
       name_is : (a : Contact) (mark : Text) → is_name_in found a mark ≡ another_has (name_keys h ts) others a mark
       name_is a mark = (λ i. not (are_keys.first_names mark i) && are_keys.names mark a i) ∙ sym (another_name a mark)
@@ -260,28 +303,39 @@ module _ (h : Histories) (ts : List Tally) (ms : List Member) (are : AreMembers 
           ∙ (λ i. any_key (is_login_in found a mark) (λ c. keys c.name) mark a i || any_key (is_name_in found a mark) (λ c. email_keys shared c.email) mark a i)
           ∙ (λ i. (is_login_in found a mark && is_among (of_names keys a i) mark) || (is_name_in found a mark && is_among (of_emails (email_keys shared) a i) mark))
 
-      marks_are : (a : Contact) (mark : Text)
+      marks_are : (a : Contact) (mark : Text) → (is_among (all_name_keys h ts a) mark ≡ true → has_key found.names mark ≡ true)
           → is_among (filter (another_has (mail_keys shared h ts) others a) (name_keys h ts a) ++ filter (another_has (name_keys h ts) others a) (mail_keys shared h ts a)) mark
           ≡ is_among (all_parts h ts ms are login_part a) mark
-      marks_are a mark =
+      marks_are a mark known =
           let has_login : Bool = another_has (mail_keys shared h ts) others a mark in
           list_any-append (λ t. bytes_eq t mark) (filter (another_has (mail_keys shared h ts) others a) (name_keys h ts a)) (filter (another_has (name_keys h ts) others a) (mail_keys shared h ts a))
           ∙ (λ i. among_filter (another_has (mail_keys shared h ts) others a) mark (name_keys h ts a) i || among_filter (another_has (name_keys h ts) others a) mark (mail_keys shared h ts a) i)
           ∙ (λ i. (has_login && among_names a mark i) || (sym (name_is a mark) i && is_among (mail_keys shared h ts a) mark))
-          ∙ ap (λ t. t || (is_name_in found a mark && is_among (mail_keys shared h ts a) mark))
-          (moved has_login (not (is_first_name h ts mark)) (is_among (all_name_keys h ts a) mark) ∙ ap (λ t. t && is_among (all_name_keys h ts a) mark) (sym (login_is a mark)))
+          ∙ ap (λ t. t || (is_name_in found a mark && is_among (mail_keys shared h ts a) mark)) (by (is_among (all_name_keys h ts a) mark) refl)
           ∙ sym (parts_are a mark)
         where
-          moved : (s t u : Bool) → (s && (t && u)) ≡ ((t && s) && u)
-          moved s t u = grind arith
+          moved : (s t : Bool) → (s && (t && true)) ≡ ((t && s) && true)
+          moved s t = grind arith
 
-      have_login : (a : Contact) (mark : Text) → is_among (login_marks shared h ts a) mark ≡ (takes_part shared h ts a && is_among (all_parts h ts ms are login_part a) mark)
-      have_login a mark = by (takes_part shared h ts a)
+          none : (s t u : Bool) → (s && (t && false)) ≡ (u && false)
+          none s t u = grind arith
+
+          by : (among : Bool) → is_among (all_name_keys h ts a) mark ≡ among
+              → (another_has (mail_keys shared h ts) others a mark && (not (is_first_name h ts mark) && among)) ≡ (is_login_in found a mark && among)
+          by true is = moved (another_has (mail_keys shared h ts) others a mark) (not (is_first_name h ts mark)) ∙ ap (λ t. t && true) (sym (login_is a mark (known is)))
+          by false is = none (another_has (mail_keys shared h ts) others a mark) (not (is_first_name h ts mark)) (is_login_in found a mark)
+
+      have_login : (m : Member) → m ∈ ms → (mark : Text)
+          → is_among (login_marks shared h ts (answer_in m)) mark ≡ (takes_part shared h ts (answer_in m) && is_among (all_parts h ts ms are login_part (answer_in m)) mark)
+      have_login m within mark = by (takes_part shared h ts a) refl
         where
-          by : (t : Bool) → is_among (if t then filter (another_has (mail_keys shared h ts) others a) (name_keys h ts a) ++ filter (another_has (name_keys h ts) others a) (mail_keys shared h ts a) else []) mark
+          a : Contact
+          a = answer_in m
+
+          by : (t : Bool) → takes_part shared h ts a ≡ t → is_among (if t then filter (another_has (mail_keys shared h ts) others a) (name_keys h ts a) ++ filter (another_has (name_keys h ts) others a) (mail_keys shared h ts a) else []) mark
               ≡ (t && is_among (all_parts h ts ms are login_part a) mark)
-          by true = marks_are a mark
-          by false = refl
+          by true is = marks_are a mark (is_known m within is mark)
+          by false is = refl
 
       one_contact : (m : Member) (c : Contact) → login_links_of shared found m c ≡ links_to m.first (login_part (answer_in m) c)
       one_contact m c = sym (map-append (λ mark. (mark, m.first)) (filter (is_login_in found (answer_in m)) (keys c.name)) (filter (is_name_in found (answer_in m)) (email_keys shared c.email)))

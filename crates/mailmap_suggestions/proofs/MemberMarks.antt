@@ -18,7 +18,7 @@ use Rattle.mailmap_suggestions.specs.GroupEntries.{contacts}
 use Rattle.mailmap_suggestions.specs.Links.{answered_by}
 use Rattle.mailmap_suggestions.specs.LinkViews.{AreLinksOf, AreMembers, IsFirstOf, answer_in, contact_in, has_own, links_to}
 use Rattle.mailmap_suggestions.specs.declared.members.Member.{Member}
-use Rattle.mailmap_suggestions.proofs.Distinct.{all_joined, all_of, each, from_filter}
+use Rattle.mailmap_suggestions.proofs.Distinct.{◌∈◌, all_joined, all_of, at, each, from_filter}
 use Rattle.mailmap_suggestions.proofs.ListTests.{and_any, any_alike, any_and, any_filter, any_in, any_joined, any_of}
 
 abbrev pub is_same : Member → Member → Bool
@@ -189,7 +189,7 @@ module _ (h : Histories) (ts : List Tally) (ms : List Member) (are : AreMembers 
         turned s t = grind arith
 
     module _ (takes : Contact → Bool) (marks_of : Contact → List Text)
-        (have : (a : Contact) (mark : Text) → is_among (marks_of a) mark ≡ (takes a && is_among (all_parts a) mark)) where
+        (have : (m : Member) → m ∈ ms → (mark : Text) → is_among (marks_of (answer_in m)) mark ≡ (takes (answer_in m) && is_among (all_parts (answer_in m)) mark)) where
       abbrev taken : List Member
       taken = filter (λ m. takes (answer_in m)) ms
 
@@ -207,9 +207,10 @@ module _ (h : Histories) (ts : List Tally) (ms : List Member) (are : AreMembers 
               none : (s t : Bool) → (s && false) ≡ (t && false)
               none s t = grind arith
 
-      every_link : (m : Member) → IsFirstOf ms m → (mark : Text)
+      every_link : (m : Member) → m ∈ ms → (mark : Text)
           → list_any (λ l. bytes_eq l.0 mark && (l.1 == m.first)) (flat_map links_by taken) ≡ is_among (marks_of (answer_in m)) mark
-      every_link m first mark =
+      every_link m i mark =
+          let first : IsFirstOf ms m = at (IsFirstOf ms) ms are.firsts m i in
           any_joined (λ l. bytes_eq l.0 mark && (l.1 == m.first)) links_by taken
           ∙ any_filter (λ b. list_any (λ l. bytes_eq l.0 mark && (l.1 == m.first)) (links_by b)) (λ b. takes (answer_in b)) ms
           ∙ any_alike (λ b. takes (answer_in b) && list_any (λ l. bytes_eq l.0 mark && (l.1 == m.first)) (links_by b))
@@ -217,7 +218,7 @@ module _ (h : Histories) (ts : List Tally) (ms : List Member) (are : AreMembers 
           (all_weaker ms (λ b first_b. of_member b m mark (same_first ms b m first_b first)) are.firsts)
           ∙ any_and (takes (answer_in m)) (λ b. is_same b m && is_among (parts_of b) mark) ms
           ∙ ap (λ t. takes (answer_in m) && t) (sym (parts_at mark m first))
-          ∙ sym (have (answer_in m) mark)
+          ∙ sym (have m i mark)
 
       only_links : AllByRecursion (λ l. list_any (λ m. l.1 == m.first) ms ≡ true) (flat_map links_by taken)
       only_links = all_joined (λ (l : Text × ℕ). list_any (λ m. l.1 == m.first) ms ≡ true) links_by taken
@@ -230,6 +231,6 @@ module _ (h : Histories) (ts : List Tally) (ms : List Member) (are : AreMembers 
       -- the links of all that take part
       pub are_links : (links : List (Text × ℕ)) → links ≡ flat_map links_by taken → AreLinksOf marks_of ms links
       are_links links is = subst (AreLinksOf marks_of ms) (sym is) (record {
-        every = all_weaker ms every_link are.firsts;
+        every = each (λ m. (mark : Text) → list_any (λ l. bytes_eq l.0 mark && (l.1 == m.first)) (flat_map links_by taken) ≡ is_among (marks_of (answer_in m)) mark) ms every_link;
         only = only_links;
       })

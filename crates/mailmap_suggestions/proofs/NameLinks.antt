@@ -15,7 +15,7 @@ use Rattle.mailmap_suggestions.proofs.MemberMarks.{all_parts, are_links, links_b
 pub name_links_are_links : (shared : List Text) (h : Histories) (ts : List Tally) (ms ps : List Member) → AreMembers h ts ms
     → ps ≡ filter (λ m. takes_part shared h ts (answer_in m)) ms → AreLinksOf (name_marks shared h ts) ms (flat_map name_links_of ps)
 name_links_are_links shared h ts ms ps are is =
-    are_links h ts ms are part (takes_part shared h ts) (name_marks shared h ts) have (flat_map name_links_of ps)
+    are_links h ts ms are part (takes_part shared h ts) (name_marks shared h ts) (λ m _. have (answer_in m)) (flat_map name_links_of ps)
     (ap (flat_map name_links_of) is ∙ (λ i. flat_map (links_is i) (filter (λ m. takes_part shared h ts (answer_in m)) ms)))
   where
     part : Contact → Contact → List Text

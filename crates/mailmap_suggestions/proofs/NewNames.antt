@@ -1,5 +1,5 @@
 -- Entries that give names: who has no name with them had none without them.
-use Rattle.std.proofs.Common.{◌≡◌, ◌≢◌, ◌∙◌, Bool, true, false, true≢false, List, [], ◌∷◌, ◌++◌, Option, None, Some, ap, bytes_eq, filter, is_some, option_map, refl, sym, unwrap_or, if◌then◌else◌}
+use Rattle.std.proofs.Common.{◌≡◌, ◌≢◌, ◌∙◌, Bool, true, true≢false, List, [], ◌∷◌, ◌++◌, Option, None, Some, ap, bytes_eq, filter, is_some, option_map, refl, sym, unwrap_or, if◌then◌else◌}
 use Rattle.std.specs.Prelude.{IfSome}
 use Rattle.std.specs.List.{AllByRecursion}
 use Rattle.std.specs.Option.{option_or}

@@ -1,5 +1,5 @@
 -- Lines with `#?` that mailmaps have, and lines without their line feeds.
-use Rattle.std.proofs.Common.{◌≡◌, ◌∙◌, ◌+◌, ◌-◌, ◌++◌, ◌==◌, ◌&&◌, ◌||◌, ℕ, suc, Bool, true, false, cond, List, [], ◌∷◌, Some, ap, arith, bytes_eq, if◌then◌else◌, length, map, refl, slice_get, sym, take}
+use Rattle.std.proofs.Common.{◌≡◌, ◌∙◌, ◌-◌, ◌++◌, ◌==◌, ◌&&◌, ◌||◌, ℕ, suc, Bool, true, false, cond, List, [], ◌∷◌, Some, ap, arith, bytes_eq, if◌then◌else◌, length, map, refl, slice_get, sym, take}
 use Rattle.std.specs.BTreeMap.{is_at}
 use Rattle.std.specs.BTreeSet.{contains}
 use Rattle.std.specs.Global.{Vec}

@@ -21,7 +21,7 @@ use Rattle.mailmap_suggestions.proofs.Kept.{IsKept, answered_unless, kept_all, n
 use Rattle.mailmap_suggestions.proofs.Careful.{text_some}
 use Rattle.mailmap_suggestions.proofs.Needed.{needs_same}
 use Rattle.mailmap_suggestions.proofs.Overlapping.{active_from, before_it, groups_say, overlapping, short_after}
-use Rattle.mailmap_suggestions.proofs.United.{active_some, added_are, all_texts, changed, comes, cut_before, cut_email, cut_for_names, cut_for_next, cut_same, email_spell, email_together, emails_named, from_group, gets, group, in_group, is_active, left_false, neither, never, next_for, next_spell, next_wants, one_by_class, one_by_email, one_class, only_same, only_some, part, part_all, proper_comes, proper_unshared, proper_wanting, right_false, shared_uncut, spell, spell_one, these, together_for, touched_answers, wanted}
+use Rattle.mailmap_suggestions.proofs.United.{active_some, added_are, all_texts, changed, comes, cut_before, cut_email, cut_for_names, cut_for_next, cut_same, email_spell, email_together, emails_named, from_group, group, in_group, is_active, left_false, neither, never, next_for, next_spell, next_wants, one_by_class, one_by_email, one_class, only_same, only_some, part, part_all, proper_comes, proper_unshared, proper_wanting, right_false, shared_uncut, spell, spell_one, these, together_for, touched_answers, wanted}
 
 -- ==== answers that come from those with the entries for emails
 

@@ -1,6 +1,6 @@
 -- Contacts with their answers, the keys of answers, and links and classes, as the code has them.
 use Rattle.std.specs.Prelude.{◌≡◌, ◌&&◌, ◌||◌, ◌==◌, ◌++◌, ℕ, Bool, false, true, not, if◌then◌else◌, List, []}
-use Rattle.std.specs.Prelude.{Option, None, Some, bytes_eq, filter, map, position, slice_get}
+use Rattle.std.specs.Prelude.{Option, None, Some, bytes_eq, filter, is_some, map, position, slice_get}
 use Rattle.std.specs.Borrow.{Bor}
 use Rattle.std.specs.BTreeMap.{get_by}
 use Rattle.std.specs.BTreeSet.{BTreeSet, contains}
@@ -123,6 +123,14 @@ joined (Some holder) a = record {
 abbrev pub holder_of : Holders → Text → Option Holder
 holder_of found key = get_by (λ k. slice_cmp nat_cmp key k.text.items) found.by_key
 
+-- whether an answer has a key
+abbrev pub has_key : Holders → Text → Bool
+has_key found key = is_some (holder_of found key)
+
+-- the keys of the login of an email that names have, too
+abbrev pub known_email_keys : List Text → Holders → Text → List Text
+known_email_keys shared names email = filter (has_key names) (email_keys shared email)
+
 -- the keys and answers that were added
 abbrev pub HoldersOf : List (Text × Contact) → Holders → Type 0
 HoldersOf pairs found = (key : Text) (a : Contact) → is_another (holder_of found key) a
@@ -155,10 +163,11 @@ abbrev pub all_login_links_of : List Text → LoginKeys → Member → List (Tex
 all_login_links_of shared found m = (if has_own m then login_links_of shared found m (answer_in m) else [])
     ++ login_links_of shared found m (contact_in m).contact
 
--- These are the keys of all answers that take part; first names are those of all answers with an email.
+-- These are the keys of all answers that take part, those of logins as far as names have them; first names are those of
+-- all answers with an email.
 pub record AreLoginKeys (shared : List Text) (h : Histories) (ts : List Tally) (found : LoginKeys) : Type 0 where
   pub names : (key : Text) (a : Contact) → is_another (holder_of found.names key) a
       ≡ another_has (all_name_keys h ts) (participants shared h ts) a key
-  pub logins : (key : Text) (a : Contact) → is_another (holder_of found.logins key) a
+  pub logins : (key : Text) (a : Contact) → has_key found.names key ≡ true → is_another (holder_of found.logins key) a
       ≡ another_has (mail_keys shared h ts) (participants shared h ts) a key
   pub first_names : (key : Text) → is_several (holder_of found.first_names key) ≡ is_first_name h ts key

@@ -4,6 +4,7 @@ ghost use Rattle.std.specs.List.{list_all};
 ghost use Rattle.std.specs.Option.{option_map};
 ghost use Rattle.mailmap_entries.specs.Folding.{folded};
 ghost use Rattle.mailmap_entries.specs.Semantics.{last_fields, no_fields, spelling};
+ghost use Rattle.mailmap_redundancy.specs.Redundancy.{entries};
 ghost use Rattle.mailmap_redundancy.specs.Summaries.{fields_of};
 ghost use Rattle.mailmap_contacts.specs.Answers.{tally_of};
 ghost use Rattle.mailmap_contacts.specs.Contacts.{answered};
@@ -23,16 +24,23 @@ use std::marker::Model;
 #[derive(Drop)]
 pub(crate) struct Answers<'p, 'a> {
     ours: Effective<'p, 'a>,
-    gits: Effective<'p, 'a>,
+    // none if git reads the same entries as this library
+    gits: Option<Effective<'p, 'a>>,
+    // whether neither reads any: each contact is its own answer then
+    is_empty: bool,
 }
 
 impl<'p, 'a> Model for Answers<'p, 'a> {
+    ghost use Rattle.std.specs.Prelude.{◌≡◌, [], IsTrue, unwrap_or};
     ghost use Rattle.mailmap_redundancy.specs.Redundancy.{entries};
     ghost use Rattle.mailmap_suggestions.specs.Forms as spec;
 
     ghost Value = { spec.Histories };
 
-    ghost view = { λ s. record { ours = entries s.ours.history; gits = entries s.gits.history } };
+    ghost view = { λ s. record { ours = entries s.ours.history; gits = entries (unwrap_or s.gits s.ours).history } };
+
+    ghost invariant = { λ s. IsTrue s.is_empty
+        → (entries s.ours.history ≡ []) × (entries (unwrap_or s.gits s.ours).history ≡ []) };
 }
 
 impl<'p, 'a> Answers<'p, 'a> {
@@ -43,25 +51,49 @@ impl<'p, 'a> Answers<'p, 'a> {
     ) -> Result<Answers<'p, 'a>, AllocError>
         ensures { IfOk result (λ answers. answers ≡ histories.now) }
     {
+        let ours = histories.ours.effective(alloc)?;
+        if histories.gits.is_same(&histories.ours) {
+            return Ok(Answers {
+                ours,
+                gits: None,
+                is_empty: histories.ours.is_empty(),
+            });
+        }
+        let gits = Some(histories.gits.effective(alloc)?);
         Ok(Answers {
-            ours: histories.ours.effective(alloc)?,
-            gits: histories.gits.effective(alloc)?,
+            ours,
+            gits,
+            is_empty: false,
         })
     }
 
+    fn gits_entries(&self) -> &Effective<'p, 'a>
+        ensures { entries result.now.history ≡ self.now.gits }
+    {
+        self.gits.as_ref().unwrap_or(&self.ours)
+    }
+
     /// What this library answers to a contact. It comes where the contact comes.
+    #[tactic(auto, using(crate::proofs::Forms::unanswered))]
     pub(crate) fn ours(&self, contact: &Tally<'a>) -> Tally<'a>
         ensures { tally_of result ≡ answered self.now.ours (tally_of contact.now) }
     {
+        if self.is_empty {
+            return *contact;
+        }
         let origins = self.ours.origins(contact.name, contact.email);
         with_fields(contact, origins.fields(contact.email))
     }
 
     /// What git answers.
+    #[tactic(auto, using(crate::proofs::Forms::git_unanswered))]
     pub(crate) fn gits(&self, contact: &Tally<'a>) -> Tally<'a>
         ensures { tally_of result ≡ git_answered self.now (tally_of contact.now) }
     {
-        let origins = self.gits.origins(contact.name, contact.email);
+        if self.is_empty {
+            return *contact;
+        }
+        let origins = self.gits_entries().origins(contact.name, contact.email);
         with_fields(contact, origins.git_fields())
     }
 
@@ -95,7 +127,8 @@ impl<'p, 'a> Answers<'p, 'a> {
     pub(crate) fn has_own_entry_in_git(&self, contact: &Tally<'_>) -> bool
         ensures { result ≡ is_some (last_fields self.now.gits (own_key (tally_of contact.now).contact)) }
     {
-        self.gits.has_own_entry(contact.name, contact.email)
+        self.gits_entries()
+            .has_own_entry(contact.name, contact.email)
     }
 
     /// Whether this library has any entry for the contact's email.

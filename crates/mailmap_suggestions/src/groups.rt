@@ -142,7 +142,7 @@ fn add_to<'a>(
         ≡ with_member number (tally_of contact.now) (map tallies_in groups.old.items)) }
 {
     if number == groups.len() {
-        groups.push(Vec::new(alloc))?;
+        groups.push(Vec::with_capacity(alloc, 1)?)?;
     }
     groups[number].push(*contact)?;
     Ok(())

@@ -1,5 +1,5 @@
 //! The entries of mailmaps, as this library reads them and as git does.
-ghost use Rattle.std.specs.Prelude.{◌≡◌, ◌++◌, ◌∷◌, [], IfOk, OnOk, map};
+ghost use Rattle.std.specs.Prelude.{◌≡◌, ◌++◌, ◌∷◌, [], IfOk, IsTrue, OnOk, map};
 ghost use Rattle.mailmap_entries.specs.Entries.{mapping_of};
 ghost use Rattle.mailmap_entries.specs.Semantics.{accepted};
 ghost use Rattle.mailmap_findings.specs.GitAnswers.{git_mappings};
@@ -106,6 +106,20 @@ impl<'a> History<'a> {
         })
     }
 
+    /// Whether there are none.
+    pub(crate) fn is_empty(&self) -> bool
+        ensures { IsTrue result → self.now ≡ [] }
+    {
+        self.entries.is_empty()
+    }
+
+    /// Whether these are the same entries, as of most mailmaps.
+    pub(crate) fn is_same(&self, other: &History<'_>) -> bool
+        ensures { IsTrue result → self.now ≡ other.now }
+    {
+        are_same(&self.entries, &other.entries)
+    }
+
     /// What answers as these entries do.
     #[tactic(auto, using(crate::proofs::Forms::entries_in))]
     pub(crate) fn effective(&self, alloc: Global) -> Result<Effective<'_, 'a>, AllocError>
@@ -152,4 +166,24 @@ impl<'a> History<'a> {
         }
         Ok(())
     }
+}
+
+fn are_same(some: &[LocatedEntry<'_>], others: &[LocatedEntry<'_>]) -> bool
+    ensures { IsTrue result → map (λ x. mapping_of x.entry) some.now ≡ map (λ x. mapping_of x.entry) others.now }
+{
+    if some.len() != others.len() {
+        return false;
+    }
+    for index in 0..some.len() {
+        if !is_same(&some[index], &others[index]) {
+            return false;
+        }
+    }
+    true
+}
+
+fn is_same(a: &LocatedEntry<'_>, b: &LocatedEntry<'_>) -> bool
+    ensures { IsTrue result → mapping_of a.now.entry ≡ mapping_of b.now.entry }
+{
+    a.entry == b.entry
 }

@@ -3,7 +3,7 @@ ghost use Rattle.std.specs.Prelude.{◌≡◌, ◌∷◌, ◌++◌, [], List, On
 ghost use Rattle.mailmap_contacts.specs.Answers.{tally_of};
 ghost use Rattle.mailmap_contacts.specs.Contacts.{Contact};
 ghost use Rattle.mailmap_entries.specs.Folding.{Text};
-ghost use Rattle.mailmap_suggestions.specs.LinkViews.{HoldersOf, holder_of, is_another, is_several};
+ghost use Rattle.mailmap_suggestions.specs.LinkViews.{HoldersOf, has_key, holder_of, is_another, is_several};
 ghost use Rattle.mailmap_suggestions.specs.LinkViews.{joined as spec_joined, mark_texts};
 ghost use Rattle.mailmap_suggestions.specs.LinkViews.{with_answer};
 
@@ -56,6 +56,13 @@ impl<'m, 'a> Holders<'m, 'a> {
         let holder = joined(self.by_key.get(&key).copied(), answer);
         self.by_key.insert(key, holder)?;
         Ok(())
+    }
+
+    /// Whether an answer has a key.
+    pub(crate) fn has(&self, key: &Mark) -> bool
+        ensures { result ≡ has_key self.now key.now.text.items }
+    {
+        self.by_key.get(key).is_some()
     }
 
     /// Whether two answers have a key.

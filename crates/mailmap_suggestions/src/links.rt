@@ -12,8 +12,8 @@ ghost use Rattle.mailmap_suggestions.specs.FirstLogins.{own_login, with_login};
 ghost use Rattle.mailmap_suggestions.specs.Forests.{links_of};
 ghost use Rattle.mailmap_suggestions.specs.Forms.{Histories};
 ghost use Rattle.mailmap_suggestions.specs.LinkViews.{AreLinksOf, AreLoginKeys, AreMembers, AreWhole, HoldersOf};
-ghost use Rattle.mailmap_suggestions.specs.LinkViews.{answer_in, is_login_in, is_name_in, links_to, login_links_of};
-ghost use Rattle.mailmap_suggestions.specs.LinkViews.{mark_texts, name_links_of, pairs_by};
+ghost use Rattle.mailmap_suggestions.specs.LinkViews.{answer_in, is_login_in, is_name_in, known_email_keys, links_to};
+ghost use Rattle.mailmap_suggestions.specs.LinkViews.{login_links_of, mark_texts, name_links_of, pairs_by};
 ghost use Rattle.mailmap_suggestions.specs.Links.{AreClassesBy, another_has, answers as spec_answers};
 ghost use Rattle.mailmap_suggestions.specs.Links.{email_keys as spec_email_keys};
 ghost use Rattle.mailmap_suggestions.specs.Links.{linking_logins, login_marks, takes_part};
@@ -80,7 +80,7 @@ impl<'m, 'a> LoginKeys<'m, 'a> {
             → IfOk result (AreLoginKeys shared.now h ts) }
     {
         let names = names_of(alloc, participants)?;
-        let logins = logins_of(alloc, shared, participants)?;
+        let logins = logins_of(alloc, shared, &names, participants)?;
         let first_names = first_names_of(alloc, members)?;
         Ok(LoginKeys {
             names,
@@ -300,18 +300,19 @@ fn add_names<'m, 'a>(
     names.add_all(name_keys(alloc, member.contact.name)?, answer)
 }
 
-// The keys of the logins of emails, with the answers that have them.
+// The keys of the logins of emails that names have, too, with the answers that have them. No other is asked for.
 fn logins_of<'m, 'a>(
     alloc: Global,
     shared: &SharedEmails<'a>,
+    names: &Holders<'_, 'a>,
     participants: &'m [Member<'_, 'a>],
 ) -> Result<Holders<'m, 'a>, AllocError>
     ensures { IfOk result (HoldersOf
-        (flat_map (pairs_by (λ c. spec_email_keys shared.now c.email)) participants.now)) }
+        (flat_map (pairs_by (λ c. known_email_keys shared.now names.now c.email)) participants.now)) }
 {
     let mut logins = Holders::new(alloc);
     for member in participants {
-        add_logins(alloc, &mut logins, shared, member)?;
+        add_logins(alloc, &mut logins, shared, names, member)?;
     }
     Ok(logins)
 }
@@ -320,16 +321,36 @@ fn add_logins<'m, 'a>(
     alloc: Global,
     logins: &mut Holders<'m, 'a>,
     shared: &SharedEmails<'a>,
+    names: &Holders<'_, 'a>,
     member: &'m Member<'_, 'a>,
 ) -> Result<(), AllocError>
     ensures { OnOk result ((pairs : List (Text × Contact)) → HoldersOf pairs logins.old
-        → HoldersOf (pairs ++ pairs_by (λ c. spec_email_keys shared.now c.email) member.now) logins.new) }
+        → HoldersOf (pairs ++ pairs_by (λ c. known_email_keys shared.now names.now c.email) member.now) logins.new) }
 {
     let answer = &member.answer;
     if has_own(member) {
-        logins.add_all(email_keys(alloc, shared, answer.email)?, answer)?;
+        logins.add_all(
+            known_email_keys(alloc, shared, names, answer.email)?,
+            answer,
+        )?;
     }
-    logins.add_all(email_keys(alloc, shared, member.contact.email)?, answer)
+    logins.add_all(
+        known_email_keys(alloc, shared, names, member.contact.email)?,
+        answer,
+    )
+}
+
+fn known_email_keys<'a>(
+    alloc: Global,
+    shared: &SharedEmails<'a>,
+    names: &Holders<'_, 'a>,
+    email: &'a [u8],
+) -> Result<Vec<Mark>, AllocError>
+    ensures { IfOk result (λ found. mark_texts found.items ≡ known_email_keys shared.now names.now email.now) }
+{
+    let mut keys = email_keys(alloc, shared, email)?;
+    keys.retain(|key| names.has(key));
+    Ok(keys)
 }
 
 // The keys of the first words of names, with the answers that have them and an email.
