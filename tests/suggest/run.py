@@ -9,8 +9,9 @@ hex. They come from a model that tries each question on whole lists of entries. 
 written from the definitions in specs, which has to give the same. `make cases` makes made.jsonl with it, where a case
 has the status and the output of `--contacts`, and it answers further cases here, with stranger texts.
 
-Large histories (large.py) have lines that follow from how they are made. If git is installed, suggestions are made for
-a repository of 3,000 commits, and git has to answer as promised.
+What is read in some names and emails (spelled.py) is written out. Large histories (large.py) have lines that follow
+from how they are made. If git is installed, suggestions are made for a repository of 3,000 commits, and git has
+to answer as promised.
 """
 import json
 import os
@@ -22,6 +23,7 @@ sys.dont_write_bytecode = True
 TESTS = Path(__file__).resolve().parents[1]
 sys.path += [str(TESTS), str(TESTS / "model")]
 import runs
+import spelled
 from buffers import Writer
 from history import History
 from large import large
@@ -85,6 +87,13 @@ def of_seed(program):
     return len(cases)
 
 
+def of_spellings(program):
+    for what, read, wanted in spelled.of_model():
+        wants(f"{what}, in the model: {read}", (read == wanted, b"", b""), True, b"")
+    for what, contacts in spelled.histories():
+        wants_suggestions(program, what, [], contacts, suggest([], contacts))
+
+
 def stranger(program):
     """More cases, with stranger texts."""
     for number in range(STRANGER):
@@ -136,6 +145,7 @@ def main():
     with tempfile.TemporaryDirectory() as folder:
         os.chdir(folder)
         counts = of_other_model(program), of_seed(program)
+        of_spellings(program)
         stranger(program)
         in_large_histories(program)
         if has_git("suggested lines in a history"):

@@ -1,6 +1,6 @@
 //! Examples of what the library answers, from the specification of mailmaps and from the original, as scripts of calls
-//! with their answers ([`script`]), and tests of what no contract says. Calls are imported from the crates that have them:
-//! a check of a crate over `gix_mailmap`, which re-exports them, takes longer.
+//! with their answers, and tests of what no contract says. `mailmap_scripts` makes the calls, so that they are proved
+//! once, and a change of an example costs little.
 #![tactic(auto)]
 
 #[cfg(test)]
@@ -11,8 +11,6 @@ mod lines;
 mod listing;
 #[cfg(test)]
 mod lookups;
-#[cfg(test)]
-mod names;
 #[cfg(test)]
 mod orders;
 #[cfg(test)]

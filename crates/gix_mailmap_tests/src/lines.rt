@@ -1,139 +1,5 @@
 //! Lines of mailmaps, and the entries that they are parsed as.
-ghost use Rattle.std.specs.Iterator.{IsFinite};
-
-use crate::script::{Run, assert_script, contact_of, cut, push, push_between};
-use crate::snapshots;
-use mailmap_entries::Entry;
-use mailmap_grammar::lines::Error;
-use mailmap_grammar::{parse, parse_ignore_errors, parse_strict};
-use mailmap_snapshot::Snapshot;
-use std::alloc::Global;
-
-/// What a line is parsed as.
-type Item<'a> = Result<Entry<'a>, Error<'a>>;
-
-pub fn call(run: &mut Run, word: &str, given: &[u8]) {
-    match word {
-        "parse" => push_items(&mut run.text, parse(given)),
-        "parse_strict" => push_items(&mut run.text, parse_strict(given)),
-        "parse_ignore_errors" => push_entries(&mut run.text, parse_ignore_errors(given)),
-        "bytes" => push_bytes(&mut run.text),
-        "brackets" => push_kinds(&mut run.text, "    ", &BRACKETS, "\n"),
-        "#" | "##" => run.snapshot = Snapshot::empty(run.alloc),
-        _ => snapshots::call(run, word, given),
-    }
-}
-
-fn push_items<'a, I: Iterator<Item = Item<'a>> + Drop>(text: &mut String, items: I)
-    requires can { I.can_next items }
-    requires finite { IsFinite (I.remaining items) }
-{
-    for item in items {
-        push_item(text, &item);
-    }
-}
-
-pub fn push_entries<'a, I: Iterator<Item = Entry<'a>> + Drop>(text: &mut String, entries: I)
-    requires can { I.can_next entries }
-    requires finite { IsFinite (I.remaining entries) }
-{
-    for entry in entries {
-        push_entry(text, &entry);
-    }
-}
-
-/// Appends an entry, or a fault with the number of its line and its input.
-fn push_item(text: &mut String, item: &Item<'_>) {
-    match item {
-        Ok(entry) => push_entry(text, entry),
-        Err(fault) => {
-            let _ = write!(text, "    {fault} ({}, ", fault.line());
-            push_between(text, "", fault.input(), ")\n");
-        }
-    }
-}
-
-/// Appends an entry as a line of a mailmap has it.
-fn push_entry(text: &mut String, entry: &Entry<'_>) {
-    push_contact(text, "   ", entry.new_name(), entry.new_email());
-    push_contact(text, "", entry.old_name(), Some(entry.old_email()));
-    push(text, "\n");
-}
-
-/// Appends a name and an email, if they are there.
-pub fn push_contact(text: &mut String, before: &str, name: Option<&[u8]>, email: Option<&[u8]>) {
-    push(text, before);
-    if let Some(name) = name {
-        push_between(text, " ", name, "");
-    }
-    if let Some(email) = email {
-        push_between(text, " <", email, ">");
-    }
-}
-
-/// The entry that a text stands for, made by a constructor.
-pub fn entry_of(text: &[u8]) -> Entry<'_> {
-    let (name, email, rest) = contact_of(text);
-    if rest.is_empty() {
-        return match name {
-            Some(name) => Entry::change_name_by_email(name, email),
-            None => Entry::default(),
-        };
-    }
-    let (old_name, old_email, _) = contact_of(rest);
-    match (name, old_name) {
-        (None, None) => Entry::change_email_by_email(email, old_email),
-        (None, Some(old)) => Entry::change_email_by_name_and_email(email, old, old_email),
-        (Some(name), None) => Entry::change_name_and_email_by_email(name, email, old_email),
-        (Some(name), Some(old)) => {
-            Entry::change_name_and_email_by_name_and_email(name, email, old, old_email)
-        }
-    }
-}
-
-pub fn entries_of(alloc: Global, given: &[u8]) -> Vec<Entry<'_>> {
-    let mut entries = Vec::new(alloc);
-    let mut rest = given;
-    for _ in 0..given.len() {
-        if rest.is_empty() {
-            break;
-        }
-        let (text, left) = cut(rest);
-        let _ = entries.push(entry_of(text));
-        rest = left;
-    }
-    entries
-}
-
-/// Appends what each byte is parsed as if it is a buffer, 16 in a line.
-fn push_bytes(text: &mut String) {
-    for byte in 0..=255_u8 {
-        let before = if byte % 16 == 0 { "     " } else { " " };
-        let after = if byte % 16 == 15 { "\n" } else { "" };
-        push_kinds(text, before, &[byte], after);
-    }
-}
-
-static BRACKETS: [u8; 100_000] = [b'<'; 100_000];
-
-/// Appends a character for what a line is parsed as, and one for what it is parsed as strictly, between two texts. An
-/// entry and a fault outlive the iterator.
-fn push_kinds(text: &mut String, before: &str, line: &[u8], after: &str) {
-    let item = parse(line).next();
-    let strict_item = parse_strict(line).next();
-    let kind = kind_of(&item, line);
-    let strict_kind = kind_of(&strict_item, line);
-    let _ = write!(text, "{before}{kind}{strict_kind}{after}");
-}
-
-fn kind_of(item: &Option<Item<'_>>, line: &[u8]) -> &'static str {
-    match item {
-        None => "",
-        Some(Err(Error::NoEmail { line: 1, input })) if *input == line => "N",
-        Some(Err(Error::MissingClosingBracket { line: 1, input })) if *input == line => "<",
-        _ => "?",
-    }
-}
+use crate::script::assert_script;
 
 #[test]
 fn a_line_has_an_entry_a_fault_or_nothing(rt: HostRuntime) {
@@ -241,27 +107,20 @@ parse # c\n<a@x>\nJane <a@x> <b\nplain\n\nJane <a@x\nBob <b@x>
     6: Missing closing bracket '>' in email (6, Jane <a@x)
     Bob <b@x>
 ## a line may be any byte, be long and end anywhere
-# a line may be any byte: N for a line without an email and < for an open one, parsed and then strictly
+# all other bytes have the fault for a line without an email
 bytes
-     NN NN NN NN NN NN NN NN NN      NN NN
-     NN NN NN NN NN NN NN NN NN NN NN NN NN NN NN NN
-      NN NN  NN NN NN NN NN NN NN NN NN NN NN NN
-     NN NN NN NN NN NN NN NN NN NN NN NN << NN NN NN
-     NN NN NN NN NN NN NN NN NN NN NN NN NN NN NN NN
-     NN NN NN NN NN NN NN NN NN NN NN NN NN NN NN NN
-     NN NN NN NN NN NN NN NN NN NN NN NN NN NN NN NN
-     NN NN NN NN NN NN NN NN NN NN NN NN NN NN NN NN
-     NN NN NN NN NN NN NN NN NN NN NN NN NN NN NN NN
-     NN NN NN NN NN NN NN NN NN NN NN NN NN NN NN NN
-     NN NN NN NN NN NN NN NN NN NN NN NN NN NN NN NN
-     NN NN NN NN NN NN NN NN NN NN NN NN NN NN NN NN
-     NN NN NN NN NN NN NN NN NN NN NN NN NN NN NN NN
-     NN NN NN NN NN NN NN NN NN NN NN NN NN NN NN NN
-     NN NN NN NN NN NN NN NN NN NN NN NN NN NN NN NN
-     NN NN NN NN NN NN NN NN NN NN NN NN NN NN NN NN
+    9
+    10
+    11
+    12
+    13
+    32
+    35
+    60
+    1: Missing closing bracket '>' in email (1, <)
 # a line of 100,000 brackets has one fault
 brackets
-    <<
+    true
 # a line may end anywhere: each front is parsed, and then strictly
 parse
 parse_strict

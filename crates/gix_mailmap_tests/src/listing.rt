@@ -1,54 +1,5 @@
 //! What snapshots list, how they compare, and what they are written as.
-use crate::lines::{entries_of, push_entries};
-use crate::lookups;
-use crate::orders::hash_of;
-use crate::script::{Run, assert_script, push_between, push_value};
-use mailmap_snapshot::Snapshot;
-use mailmap_snapshot::snapshot::WriteError;
-use std::alloc::AllocError;
-
-pub fn call(run: &mut Run, word: &str, given: &[u8]) {
-    match word {
-        "iter" => push_entries(&mut run.text, run.snapshot.iter()),
-        "entries" => push_listed(run),
-        "equals" => push_equality(run, given),
-        "debug" => push_debug(&mut run.text, &run.snapshot),
-        "write" => push_written(&mut run.text, run.snapshot.write(run.alloc)),
-        _ => lookups::call(run, word, given),
-    }
-}
-
-/// Appends the debug text of a snapshot, and the text of the error that no script can bring about.
-fn push_debug(text: &mut String, snapshot: &Snapshot) {
-    push_value(text, snapshot);
-    push_written(text, Err(WriteError::Memory(AllocError)));
-}
-
-/// Appends the entries, and how many there are.
-fn push_listed(run: &mut Run) {
-    if let Ok(entries) = run.snapshot.entries(run.alloc) {
-        push_entries(&mut run.text, entries.iter().copied());
-    }
-    push_value(&mut run.text, &run.snapshot.len());
-}
-
-/// Appends whether the snapshot is equal to that of other entries, and hashes alike.
-fn push_equality(run: &mut Run, given: &[u8]) {
-    let entries = entries_of(run.alloc, given);
-    if let Ok(other) = Snapshot::new(run.alloc, entries.into_iter()) {
-        let is_same = (run.snapshot == other) & (hash_of(&run.snapshot) == hash_of(&other));
-        push_value(&mut run.text, &is_same);
-    }
-}
-
-pub fn push_written(text: &mut String, written: Result<Vec<u8>, WriteError>) {
-    match written {
-        Ok(bytes) => push_between(text, "    ", &bytes, "\n"),
-        Err(error) => {
-            let _ = writeln!(text, "    {error}");
-        }
-    }
-}
+use crate::script::assert_script;
 
 #[test]
 fn snapshots_are_listed_compared_and_written(rt: HostRuntime) {
@@ -59,6 +10,7 @@ fn snapshots_are_listed_compared_and_written(rt: HostRuntime) {
 # an empty buffer
 from_bytes
 iter
+    0
 entries
     0
 # letters count as lower case, so _ comes before all of them
@@ -67,6 +19,7 @@ iter
     2 <_@x>
     3 <a@x>
     1 <Z@x>
+    3
 entries
     2 <_@x>
     3 <a@x>
@@ -141,8 +94,9 @@ equals <n@y> <x@y>; <n@y> Jane <x@y>
 from_bytes \nJoe R. Developer <joe@example.com> <bugs@example.com>\nJane Doe <jane@example.com> Jane <bugs@example.com>\n
 equals Joe R. Developer <joe@example.com> <bugs@example.com>; Jane Doe <jane@example.com> Jane <bugs@example.com>
     true
-# and the entries that it is parsed as
+# and the entries that it is parsed as, one by one
 numbered 1; \nJoe R. Developer <joe@example.com> <bugs@example.com>\nJane Doe <jane@example.com> Jane <bugs@example.com>\n
+    true
 equals Joe R. Developer <joe@example.com> <bugs@example.com>; Jane Doe <jane@example.com> Jane <bugs@example.com>
     true
 ## a snapshot is written if lines can hold its entries; the error counts the entries of the listing from 0

@@ -1,97 +1,5 @@
 //! Lookups: what replaces a name and an email, and how many comparisons they take.
-use crate::lines::push_contact;
-use crate::script::{Run, assert_script, contact_of, cut, number_of, push, push_value};
-use crate::signatures;
-use mailmap_entries::fold::Steps;
-use mailmap_snapshot::Snapshot;
-use mailmap_snapshot::actor::SignatureRef;
-use mailmap_snapshot::snapshot::ResolvedSignature;
-use std::cmp;
-
-pub fn call(run: &mut Run, word: &str, given: &[u8]) {
-    match word {
-        "lookups" => push_lookups(&mut run.text, &run.snapshot, asked_of(given)),
-        "steps" => push_steps(&mut run.text, &run.snapshot, given),
-        "most_steps" => push_most_steps(&mut run.text, &run.snapshot, given),
-        _ => signatures::call(run, word, given),
-    }
-}
-
-/// A signature: a name, an email and a time.
-pub fn asked_of(given: &[u8]) -> SignatureRef<'_> {
-    let (name, email, time) = contact_of(given);
-    SignatureRef {
-        name: name.unwrap_or(b""),
-        email,
-        time: str::from_utf8(time).unwrap_or(""),
-    }
-}
-
-/// Appends what each of the three lookups finds, the first with a copy of the texts.
-fn push_lookups(text: &mut String, snapshot: &Snapshot, asked: SignatureRef<'_>) {
-    push_found(text, found_by_copy(snapshot, asked));
-    push_found(text, snapshot.try_resolve_contact(asked.name, asked.email));
-    push_found(
-        text,
-        snapshot.try_resolve_ref_counted(asked, &mut Steps::new()),
-    );
-}
-
-/// The answer outlives the texts that are looked up.
-fn found_by_copy<'s>(
-    snapshot: &'s Snapshot,
-    asked: SignatureRef<'_>,
-) -> Option<ResolvedSignature<'s>> {
-    let mut name = [0; 32];
-    let mut email = [0; 32];
-    let name = name.get_mut(..asked.name.len())?;
-    let email = email.get_mut(..asked.email.len())?;
-    name.copy_from_slice(asked.name);
-    email.copy_from_slice(asked.email);
-    snapshot.try_resolve_ref(SignatureRef {
-        name,
-        email,
-        time: asked.time,
-    })
-}
-
-/// Appends the name and the email that replace those of a signature.
-fn push_found(text: &mut String, found: Option<ResolvedSignature<'_>>) {
-    match found {
-        Some(found) => push_contact(text, "   ", found.name, found.email),
-        None => push(text, "    nothing"),
-    }
-    push(text, "\n");
-}
-
-fn steps_of(snapshot: &Snapshot, asked: SignatureRef<'_>) -> usize {
-    let mut steps = Steps::new();
-    let _ = snapshot.try_resolve_ref_counted(asked, &mut steps);
-    steps.count()
-}
-
-/// Appends whether a lookup takes at least and at most so many comparisons.
-fn push_steps(text: &mut String, snapshot: &Snapshot, given: &[u8]) {
-    let (least, rest) = cut(given);
-    let (most, rest) = cut(rest);
-    let steps = steps_of(snapshot, asked_of(rest));
-    let is_within = (number_of(least) <= steps) & (steps <= number_of(most));
-    push_value(text, &is_within);
-}
-
-/// Appends whether lookups of the emails that are there, and of one that isn't, take at most so many comparisons.
-fn push_most_steps(text: &mut String, snapshot: &Snapshot, given: &[u8]) {
-    let mut most = steps_of(snapshot, asked_of(b"n <unknown@x>"));
-    for entry in snapshot.iter() {
-        let asked = SignatureRef {
-            name: b"n",
-            email: entry.old_email(),
-            time: "",
-        };
-        most = cmp::max(most, steps_of(snapshot, asked));
-    }
-    push_value(text, &(most <= number_of(given)));
-}
+use crate::script::assert_script;
 
 #[test]
 fn a_lookup_finds_what_replaces_a_name_and_an_email(rt: HostRuntime) {
@@ -203,43 +111,45 @@ lookups Bob <X@y>
     <>
     <>
     <>
-## a lookup compares once for each binary digit of the number of emails, and of names of the email that is found; steps
-## has the least and the most comparisons
+## a lookup compares at most once for each binary digit of the number of emails, and of names of the email that is found;
+## steps has how often, most_steps the most of all emails that are there
 # no emails
-steps 0; 0; n <a@x>
-    true
+steps n <a@x>
+    0
 # one email
 new N <a@x>
-steps 1; 1; n <b@x>
-    true
-steps 1; 1; n <A@x>
-    true
+steps n <b@x>
+    1
+steps n <A@x>
+    1
 # three emails, and four names of the one that is found
 new N <a@x>; <1@x> A <b@x>; <2@x> B <b@x>; <3@x> C <b@x>; <4@x> D <b@x>; N <c@x>
-steps 2; 5; a <b@x>
-    true
-steps 2; 5; b <b@x>
-    true
-steps 2; 5; c <b@x>
-    true
-steps 2; 5; d <b@x>
-    true
-steps 2; 5; e <b@x>
-    true
-steps 1; 2; a <d@x>
-    true
+steps a <b@x>
+    4
+steps b <b@x>
+    3
+steps c <b@x>
+    2
+steps d <b@x>
+    3
+steps e <b@x>
+    3
+steps a <d@x>
+    2
 # 1,023 emails, and one that isn't known
 numbered 1023; N <#@x>
-most_steps 10
     true
-steps 1; 10; n <1023@x>
-    true
+most_steps
+    10
+steps n <1023@x>
+    10
 # 1,024 emails, and one that isn't known
 numbered 1024; N <#@x>
-most_steps 11
     true
-steps 1; 11; n <1024@x>
-    true
+most_steps
+    11
+steps n <1024@x>
+    10
 "#,
     );
 }
