@@ -1,7 +1,6 @@
 -- What a file system holds, and the results of reading its files.
-use Rattle.std.specs.Prelude.{◌≡◌, ◌≢◌, ◌⊎◌, ◌-◌, ℕ, suc, ◌<◌, ◌≤◌, ⊤, List, [], ◌∷◌, Option, Some, EachIndex, codes, length, map}
+use Rattle.std.specs.Prelude.{◌≡◌, ◌≢◌, ◌⊎◌, ◌-◌, ℕ, suc, ◌<◌, ◌≤◌, ⊤, List, [], ◌∷◌, Option, Some, EachIndex, codes, length}
 use Rattle.std.specs.Prelude.{slice_index_or}
-use Rattle.std.specs.Global.{Vec}
 use Rattle.std.specs.declared.io.ErrorKind.{ErrorKind}
 use Rattle.std.specs.declared.io.ErrorKind.TheVariants.{NotFound, OutOfMemory}
 use Rattle.command_line.specs.Failures.{Failure, File, Memory}
@@ -35,10 +34,6 @@ abbrev pub MayRead : AtPath → Type 0
 MayRead (Bytes bytes) = ⊤
 MayRead (Fails cause) = ⊥
 MayRead Unknown = ⊤
-
--- the bytes of each path or of each file
-abbrev pub texts : List (Vec ℕ) → List (List ℕ)
-texts xs = map (λ x. x.items) xs
 
 -- the contents of all files, in the order of their paths
 abbrev pub AreRead : (List ℕ → AtPath) → List (List ℕ) → List (List ℕ) → Type 0

@@ -3,7 +3,8 @@ ghost use Rattle.std.specs.Prelude.{◌≡◌, ◌⊎◌, ℕ, List, Err, IfErr,
 ghost use Rattle.std.specs.IoError.{error_kind};
 ghost use Rattle.command_line.specs.Failures.{IsOfFile};
 ghost use Rattle.command_line.specs.Files.{AreRead, AtPath, FailsForDefault, FailsWith, Gives, IsDefault, IsOfNumber, NamesFile};
-ghost use Rattle.command_line.specs.Files.{Opens, Unknown, default_path, texts};
+ghost use Rattle.command_line.specs.Files.{Opens, Unknown, default_path};
+ghost use Rattle.mailmap_entries.specs.Texts.{texts};
 
 use crate::failure::Failure;
 use crate::streams::read_to_end;

@@ -1,6 +1,6 @@
 //! Error messages of the programs.
 ghost use Rattle.std.specs.Prelude.{◌≡◌, ◌-◌, ◌++◌, [], IfOk, IsOkUnless, OnOk, codes, slice_index_or};
-ghost use Rattle.command_line.specs.Files.{texts};
+ghost use Rattle.mailmap_entries.specs.Texts.{texts};
 ghost use Rattle.command_line.specs.Messages.{cause_text, failure_text, messages_or, program_message};
 ghost use Rattle.command_line.specs.Printing.{WritesText};
 ghost use Rattle.shown_text.specs.Shown.{shown};

@@ -13,6 +13,7 @@ use Rattle.gix_mailmap_c.specs.Streamed.{Pending, HasTakenOf, ended}
 use Rattle.gix_mailmap_c.specs.declared.held.Content.{Content}
 use Rattle.gix_mailmap_c.specs.declared.held.Content.TheVariants.{Mailmap, Stream}
 use Rattle.gix_mailmap_c.specs.declared.held.Handle.{Handle}
+use Rattle.gix_mailmap_c.specs.declared.status.TheConstants.{NOT_AN_ENTRY, OK, OPEN, OUT_OF_MEMORY, UNWRITABLE}
 
 abbrev pub if_open : Bool → Content → Option Content
 if_open true content = Some content
@@ -39,17 +40,15 @@ Holds {X} holding P content = (x : X) × (content ≡ Some (holding x)) × P x
 abbrev pub LeavesHandle : ℕ → Option Content → Option Content → ℕ → Type 0
 LeavesHandle code old new status = (status ≡ code) × (new ≡ old)
 
--- status 0: the closed handle is opened with a content that has the property P; 2: out of memory; 7: it was open, and
--- is unchanged
+-- the closed handle is opened with a content that has the property P; otherwise the handle is unchanged
 abbrev pub Opens : {X : Type 0} → (X → Content) → (X → Type 0) → Option Content → Option Content → ℕ → Type 0
-Opens holding P (Some content) new status = LeavesHandle 7 (Some content) new status
-Opens holding P None new status = ((status ≡ 0) × Holds holding P new) ⊎ LeavesHandle 2 None new status
+Opens holding P (Some content) new status = LeavesHandle OPEN (Some content) new status
+Opens holding P None new status = ((status ≡ OK) × Holds holding P new) ⊎ LeavesHandle OUT_OF_MEMORY None new status
 
--- status 0: a text's entries are merged after those of the mailmap; 2: out of memory, and the text has an accepted
--- entry
+-- a text's entries are merged after those of the mailmap; only an accepted one takes memory
 abbrev pub Adds : List Mapping → List Mapping → Option Content → ℕ → Type 0
-Adds added n new status = ((status ≡ 0) × Holds Mailmap (IsMerged n added) new)
-    ⊎ ((accepted added ≢ []) × LeavesHandle 2 (Some (Mailmap n)) new status)
+Adds added n new status = ((status ≡ OK) × Holds Mailmap (IsMerged n added) new)
+    ⊎ ((accepted added ≢ []) × LeavesHandle OUT_OF_MEMORY (Some (Mailmap n)) new status)
 
 -- an entry needs a new name or a new email; with an old name, it needs a new email
 abbrev pub if_entry : Option Text → Option Text → Option Text → Text → Option Mapping
@@ -63,18 +62,18 @@ abbrev pub entry_given : Text → Text → Text → Text → Option Mapping
 entry_given new_name new_email old_name old_email =
     if_entry (non_empty new_name) (non_empty new_email) (non_empty old_name) old_email
 
--- status 0: the entry is merged after those of the mailmap; 2: out of memory; 4: there is no entry
+-- the entry, if there is one, is merged after those of the mailmap
 abbrev pub AddsGiven : Option Mapping → List Mapping → Option Content → ℕ → Type 0
-AddsGiven None n new status = LeavesHandle 4 (Some (Mailmap n)) new status
+AddsGiven None n new status = LeavesHandle NOT_AN_ENTRY (Some (Mailmap n)) new status
 AddsGiven (Some e) n new status =
-    ((status ≡ 0) × Holds Mailmap (IsMerged n (e ∷ [])) new) ⊎ LeavesHandle 2 (Some (Mailmap n)) new status
+    ((status ≡ OK) × Holds Mailmap (IsMerged n (e ∷ [])) new) ⊎ LeavesHandle OUT_OF_MEMORY (Some (Mailmap n)) new status
 
--- each entry fits on a line, and the text is written if it fits into the buffer; status 5: the entry at this place is
--- the first that no line can hold, and the buffer is unchanged
+-- each entry fits on a line, and the text is written if it fits into the buffer, or the entry at this place is the first
+-- that no line can hold, and the buffer is unchanged
 abbrev pub Writes : List Mapping → Text → Text → ℕ → ℕ → Type 0
 Writes n before after needed status =
     (All IsWritable n × IsOutput (λ bytes. bytes ≡ canonical_text n) before after needed status)
-    ⊎ ((status ≡ 5) × IsFirstUnwritable n needed × (after ≡ before))
+    ⊎ ((status ≡ UNWRITABLE) × IsFirstUnwritable n needed × (after ≡ before))
 
 -- ---- streams
 
@@ -87,11 +86,12 @@ pending_in None = None
 abbrev pub pending : Handle → Option Pending
 pending h = pending_in (content_of h)
 
--- status 0: bytes are read from the front of the part; 2: out of memory, and none are
+-- bytes are read from the front of the part; out of memory, none are
 abbrev pub Pushes : Text → Pending → Option Content → ℕ → ℕ → Type 0
-Pushes part p new taken status = ((status ≡ 0) × Holds Stream (HasTakenOf part taken p) new)
-    ⊎ ((taken ≡ 0) × LeavesHandle 2 (Some (Stream p)) new status)
+Pushes part p new taken status = ((status ≡ OK) × Holds Stream (HasTakenOf part taken p) new)
+    ⊎ ((taken ≡ 0) × LeavesHandle OUT_OF_MEMORY (Some (Stream p)) new status)
 
--- status 0: the partial line is answered; 2: out of memory
+-- the partial line is answered
 abbrev pub Finishes : Pending → Option Content → ℕ → Type 0
-Finishes p new status = ((status ≡ 0) × (new ≡ Some (Stream (ended p)))) ⊎ LeavesHandle 2 (Some (Stream p)) new status
+Finishes p new status = ((status ≡ OK) × (new ≡ Some (Stream (ended p))))
+    ⊎ LeavesHandle OUT_OF_MEMORY (Some (Stream p)) new status

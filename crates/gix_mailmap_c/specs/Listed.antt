@@ -6,6 +6,7 @@ use Rattle.mailmap_entries.specs.Folding.{Text}
 use Rattle.gix_mailmap_c.specs.Buffers.{IsWrittenOrShort}
 use Rattle.gix_mailmap_c.specs.declared.listing.Listed.{Listed}
 use Rattle.gix_mailmap_c.specs.declared.lookup.Field.{Field}
+use Rattle.gix_mailmap_c.specs.declared.status.TheConstants.{NO_ENTRY, OK, TOO_SHORT}
 
 -- the length of a text, or of the other one that is used if it is missing, and whether it is there
 abbrev pub field_of : Option Text → Text → Field
@@ -47,15 +48,16 @@ pub record IsAfter {X : Type 0} (s : List X) (start : ℕ) (before after : List 
 abbrev pub over : {X : Type 0} → List X → List X → List X
 over s before = s ++ drop (length s) before
 
--- status 0: all entries are listed, and their texts copied; 1: one of the buffers is too short, and both are unchanged
+-- all entries are listed, and their texts copied, or one of the buffers is too short, and both are unchanged
 abbrev pub Lists : List Mapping → List Listed → List Listed → Text → Text → ℕ → Type 0
 Lists ms e_before e_after t_before t_after status =
-    ((status ≡ 0) × (e_after ≡ over (all_listed 0 ms) e_before) × (t_after ≡ over (all_texts ms) t_before))
-    ⊎ ((status ≡ 1) × ((length e_before < length ms) ⊎ (length t_before < length (all_texts ms)))
+    ((status ≡ OK) × (e_after ≡ over (all_listed 0 ms) e_before) × (t_after ≡ over (all_texts ms) t_before))
+    ⊎ ((status ≡ TOO_SHORT) × ((length e_before < length ms) ⊎ (length t_before < length (all_texts ms)))
     × (e_after ≡ e_before) × (t_after ≡ t_before))
 
--- the entry is listed, and its texts are copied if they fit; status 3: there is no such entry, and both are unchanged
+-- the entry is listed, and its texts are copied if they fit; without such an entry, both are unchanged
 abbrev pub ListsOne : Option Mapping → Listed → Listed → Text → Text → ℕ → Type 0
-ListsOne None e_before e_after t_before t_after status = (status ≡ 3) × (e_after ≡ e_before) × (t_after ≡ t_before)
+ListsOne None e_before e_after t_before t_after status =
+    (status ≡ NO_ENTRY) × (e_after ≡ e_before) × (t_after ≡ t_before)
 ListsOne (Some m) e_before e_after t_before t_after status =
     (e_after ≡ listed_at 0 m) × IsWrittenOrShort (entry_texts m) t_before t_after status

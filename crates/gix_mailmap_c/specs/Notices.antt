@@ -115,7 +115,7 @@ pub record PutsWords (w : Words) (before after : List Noticed) (texts_before tex
   pub texts_counted : texts_needed ≡ length w.texts
   pub put : ArePut w.listed before after w.texts texts_before texts_after status
 
--- status 2: out of memory, and the buffers are unchanged
+-- out of memory, and the buffers are unchanged
 pub record NoWords (before after : List Noticed) (texts_before texts_after : Text) (needed texts_needed status : ℕ) : Type 0
   where
     pub listed : IsOutOfMemory before after needed status

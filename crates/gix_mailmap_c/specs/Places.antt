@@ -13,6 +13,7 @@ use Rattle.gix_mailmap_c.specs.declared.parsing.Parsed.{Parsed}
 use Rattle.gix_mailmap_c.specs.declared.parsing.Place.{Place}
 use Rattle.gix_mailmap_c.specs.declared.parsing.PlacedContact as declared
 use Rattle.gix_mailmap_c.specs.declared.parsing.Places.{Places}
+use Rattle.gix_mailmap_c.specs.declared.status.TheConstants.{NO_ENTRY, OK}
 
 -- ---- the texts of an entry
 
@@ -104,11 +105,11 @@ parsed_from start lines (line ∷ rest) = option_to_list (parsed_line start (nex
 abbrev pub parsed_after : Text → Cursor → List Parsed
 parsed_after mailmap at = parsed_from at.start at.lines (whole_lines (drop at.start mailmap))
 
--- status 0: this is the first one that is left, and the cursor is after it; 3: none is left, and nothing is changed
+-- this is the first one that is left, and the cursor is after it, or none is left, and nothing is changed
 abbrev pub ParsesNext : Text → Cursor → Cursor → Parsed → Parsed → ℕ → Type 0
 ParsesNext mailmap old new before after status =
-    ((status ≡ 0) × (parsed_after mailmap old ≡ after ∷ parsed_after mailmap new))
-    ⊎ ((status ≡ 3) × (parsed_after mailmap old ≡ []) × (new ≡ old) × (after ≡ before))
+    ((status ≡ OK) × (parsed_after mailmap old ≡ after ∷ parsed_after mailmap new))
+    ⊎ ((status ≡ NO_ENTRY) × (parsed_after mailmap old ≡ []) × (new ≡ old) × (after ≡ before))
 
 -- ---- what is at places
 

@@ -1,6 +1,7 @@
 //! Copies results into the caller's buffers.
 ghost use Rattle.std.specs.Prelude.{◌≡◌, IfOk, OnErr};
 ghost use Rattle.gix_mailmap_c.specs.Buffers.{ArePut, IsOutOfMemory, IsPut};
+ghost use Rattle.gix_mailmap_c.specs.declared.status.TheConstants.{OUT_OF_MEMORY};
 
 use crate::copies::copy;
 use crate::status::{OK, OUT_OF_MEMORY, TOO_SHORT};
@@ -36,7 +37,7 @@ pub(crate) fn hand<T: Copy>(
 
 /// Reports that there is no text, because memory ran out.
 pub(crate) fn out_of_memory(needed: &mut usize) -> u32
-    ensures { (needed.new ≡ 0) × (result ≡ 2) }
+    ensures { (needed.new ≡ 0) × (result ≡ OUT_OF_MEMORY) }
 {
     *needed = 0;
     OUT_OF_MEMORY

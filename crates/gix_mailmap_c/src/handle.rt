@@ -7,6 +7,7 @@ ghost use Rattle.mailmap_grammar.specs.Lines.{mappings_of};
 ghost use Rattle.gix_mailmap_c.specs.Handles.{content_of, entry_given, handle_listing};
 ghost use Rattle.gix_mailmap_c.specs.Handles.{Adds, AddsGiven, LeavesHandle, Opens, Writes};
 ghost use Rattle.gix_mailmap_c.specs.declared.held.Content.TheVariants.{Mailmap};
+ghost use Rattle.gix_mailmap_c.specs.declared.status.TheConstants.{CLOSED, OK, OUT_OF_MEMORY};
 
 use crate::buffers::{out_of_memory, put};
 use crate::held::{
@@ -42,7 +43,8 @@ pub extern "C" fn gix_mailmap_handle_open(alloc: Global, m: &mut Handle, text: &
 #[unsafe(no_mangle)]
 pub extern "C" fn gix_mailmap_handle_copy(alloc: Global, m: &mut Handle, other: &mut Handle) -> u32
     ensures unchanged { content_of other.new ≡ content_of other.old }
-    ensures copied { MatchOption (handle_listing other.old) (LeavesHandle 6 (content_of m.old) (content_of m.new) result)
+    ensures copied { MatchOption (handle_listing other.old)
+        (LeavesHandle CLOSED (content_of m.old) (content_of m.new) result)
         (λ n. Opens Mailmap (λ copy. copy ≡ n) (content_of m.old) (content_of m.new) result) }
 {
     held_in!(other, Mailmap(snapshot));
@@ -62,8 +64,9 @@ pub extern "C" fn gix_mailmap_handle_copy(alloc: Global, m: &mut Handle, other: 
 #[unsafe(no_mangle)]
 pub extern "C" fn gix_mailmap_handle_merge(m: &mut Handle, other: &mut Handle) -> u32
     ensures unchanged { content_of other.new ≡ content_of other.old }
-    ensures merged { MatchOption (handle_listing other.old) (LeavesHandle 6 (content_of m.old) (content_of m.new) result)
-        (λ added. MatchOption (handle_listing m.old) (LeavesHandle 6 (content_of m.old) (content_of m.new) result)
+    ensures merged { MatchOption (handle_listing other.old)
+        (LeavesHandle CLOSED (content_of m.old) (content_of m.new) result)
+        (λ added. MatchOption (handle_listing m.old) (LeavesHandle CLOSED (content_of m.old) (content_of m.new) result)
         (λ n. Adds added n (content_of m.new) result)) }
 {
     held_in!(other, Mailmap(added));
@@ -75,7 +78,7 @@ pub extern "C" fn gix_mailmap_handle_merge(m: &mut Handle, other: &mut Handle) -
 /// Returns `OK`; `OUT_OF_MEMORY`, and the mailmap is unchanged; or `CLOSED`.
 #[unsafe(no_mangle)]
 pub extern "C" fn gix_mailmap_handle_add(m: &mut Handle, text: &[u8]) -> u32
-    ensures { MatchOption (handle_listing m.old) (LeavesHandle 6 (content_of m.old) (content_of m.new) result)
+    ensures { MatchOption (handle_listing m.old) (LeavesHandle CLOSED (content_of m.old) (content_of m.new) result)
         (λ n. Adds (mappings_of text.now) n (content_of m.new) result) }
 {
     held_in!(m, Mailmap(snapshot));
@@ -98,7 +101,7 @@ pub extern "C" fn gix_mailmap_handle_add_entry(
     old_name: &[u8],
     old_email: &[u8],
 ) -> u32
-    ensures { MatchOption (handle_listing m.old) (LeavesHandle 6 (content_of m.old) (content_of m.new) result)
+    ensures { MatchOption (handle_listing m.old) (LeavesHandle CLOSED (content_of m.old) (content_of m.new) result)
         (λ n. AddsGiven (entry_given new_name.now new_email.now old_name.now old_email.now) n (content_of m.new) result) }
 {
     held_in!(m, Mailmap(snapshot));
@@ -125,7 +128,8 @@ pub extern "C" fn gix_mailmap_handle_write(
 ) -> u32
     ensures unchanged { content_of m.new ≡ content_of m.old }
     ensures written { IfSome (handle_listing m.old) (λ n. Writes n out.old out.new needed.new result) }
-    ensures closed { IfNone (handle_listing m.old) ((result ≡ 6) × (out.new ≡ out.old) × (needed.new ≡ needed.old)) }
+    ensures closed { IfNone (handle_listing m.old)
+        ((result ≡ CLOSED) × (out.new ≡ out.old) × (needed.new ≡ needed.old)) }
 {
     held_in!(m, Mailmap(snapshot));
     match snapshot.write(alloc) {
@@ -149,7 +153,8 @@ pub extern "C" fn gix_mailmap_handle_close(alloc: Global, m: &mut Handle)
 /// Opens a closed handle with a content, if there is memory for the box.
 pub(crate) fn open(alloc: Global, h: &mut Handle, content: Content) -> u32
     requires { content_of h.old ≡ None }
-    ensures { ((result ≡ 0) × (content_of h.new ≡ Some content)) ⊎ LeavesHandle 2 None (content_of h.new) result }
+    ensures { ((result ≡ OK) × (content_of h.new ≡ Some content))
+        ⊎ LeavesHandle OUT_OF_MEMORY None (content_of h.new) result }
 {
     let Ok(content) = Box::new(alloc, content) else {
         return OUT_OF_MEMORY;
@@ -172,7 +177,7 @@ pub(crate) fn close(alloc: Global, h: &mut Handle)
 
 // Adds the entries that a snapshot lists to a handle's mailmap, if that is open.
 fn merge(m: &mut Handle, added: &Snapshot) -> u32
-    ensures { MatchOption (handle_listing m.old) (LeavesHandle 6 (content_of m.old) (content_of m.new) result)
+    ensures { MatchOption (handle_listing m.old) (LeavesHandle CLOSED (content_of m.old) (content_of m.new) result)
         (λ n. Adds added.now n (content_of m.new) result) }
 {
     held_in!(m, Mailmap(snapshot));

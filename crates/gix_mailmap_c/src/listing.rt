@@ -5,6 +5,7 @@ ghost use Rattle.mailmap_entries.specs.Entries.{mapping_of};
 ghost use Rattle.gix_mailmap_c.specs.Handles.{content_of, handle_listing};
 ghost use Rattle.gix_mailmap_c.specs.Listed.{all_listed, all_texts, entry_texts, listed_at, over, text_or_empty};
 ghost use Rattle.gix_mailmap_c.specs.Listed.{IsAfter, Lists, ListsOne};
+ghost use Rattle.gix_mailmap_c.specs.declared.status.TheConstants.{CLOSED, OK};
 
 use crate::held::{Handle, held_in};
 use crate::lookup::Field;
@@ -50,9 +51,9 @@ pub extern "C" fn gix_mailmap_handle_len(
 ) -> u32
     ensures unchanged { content_of m.new ≡ content_of m.old }
     ensures listed { IfSome (handle_listing m.old)
-        (λ n. (result ≡ 0) × (entries_len.new ≡ length n) × (texts_len.new ≡ min usize.MAX (length (all_texts n)))) }
+        (λ n. (result ≡ OK) × (entries_len.new ≡ length n) × (texts_len.new ≡ min usize.MAX (length (all_texts n)))) }
     ensures closed { IfNone (handle_listing m.old)
-        ((result ≡ 6) × (entries_len.new ≡ entries_len.old) × (texts_len.new ≡ texts_len.old)) }
+        ((result ≡ CLOSED) × (entries_len.new ≡ entries_len.old) × (texts_len.new ≡ texts_len.old)) }
 {
     held_in!(m, Mailmap(snapshot));
     *entries_len = snapshot.len();
@@ -72,7 +73,8 @@ pub extern "C" fn gix_mailmap_handle_list(
 ) -> u32
     ensures unchanged { content_of m.new ≡ content_of m.old }
     ensures listed { IfSome (handle_listing m.old) (λ n. Lists n entries.old entries.new texts.old texts.new result) }
-    ensures closed { IfNone (handle_listing m.old) ((result ≡ 6) × (entries.new ≡ entries.old) × (texts.new ≡ texts.old)) }
+    ensures closed { IfNone (handle_listing m.old)
+        ((result ≡ CLOSED) × (entries.new ≡ entries.old) × (texts.new ≡ texts.old)) }
 {
     held_in!(m, Mailmap(snapshot));
     if snapshot.len() > entries.len() {
@@ -101,7 +103,8 @@ pub extern "C" fn gix_mailmap_handle_entry(
     ensures unchanged { content_of m.new ≡ content_of m.old }
     ensures entry { IfSome (handle_listing m.old)
         (λ n. ListsOne (slice_get n index) entry.old entry.new texts.old texts.new result) }
-    ensures closed { IfNone (handle_listing m.old) ((result ≡ 6) × (entry.new ≡ entry.old) × (texts.new ≡ texts.old)) }
+    ensures closed { IfNone (handle_listing m.old)
+        ((result ≡ CLOSED) × (entry.new ≡ entry.old) × (texts.new ≡ texts.old)) }
 {
     held_in!(m, Mailmap(snapshot));
     list_one(snapshot, index, entry, texts)

@@ -5,6 +5,7 @@ ghost use Rattle.mailmap_entries.specs.Semantics.{fields_for};
 ghost use Rattle.gix_mailmap_c.specs.Buffers.{ArePut};
 ghost use Rattle.gix_mailmap_c.specs.Handles.{content_of, handle_listing};
 ghost use Rattle.gix_mailmap_c.specs.Listed.{field_of};
+ghost use Rattle.gix_mailmap_c.specs.declared.status.TheConstants.{CLOSED};
 
 use crate::buffers::put_both;
 use crate::held::{Handle, held_in};
@@ -62,7 +63,7 @@ pub extern "C" fn gix_mailmap_handle_lookup(
         ArePut (unwrap_or f.name name.now) name_out.old name_out.new
         (unwrap_or f.email email.now) email_out.old email_out.new result) }
     ensures closed { IfNone (handle_listing m.old)
-        ((result ≡ 6) × (name_out.new ≡ name_out.old) × (name_field.new ≡ name_field.old)
+        ((result ≡ CLOSED) × (name_out.new ≡ name_out.old) × (name_field.new ≡ name_field.old)
         × (email_out.new ≡ email_out.old) × (email_field.new ≡ email_field.old)) }
 {
     held_in!(m, Mailmap(snapshot));

@@ -3,6 +3,7 @@ ghost use Rattle.std.specs.Prelude.{◌≡◌, ◌∷◌, ◌++◌, ◌+◌, ◌
 ghost use Rattle.mailmap_grammar.specs.Lines.{cut};
 ghost use Rattle.gix_mailmap_c.specs.Places.{parsed_after, parsed_line, place_of, placed_contact, placed_of};
 ghost use Rattle.gix_mailmap_c.specs.Places.{places_in, IsHeld, IsPartAt, ParsesNext};
+ghost use Rattle.gix_mailmap_c.specs.declared.status.TheConstants.{OK};
 
 use crate::status::{NO_ENTRY, OK};
 use crate::texts::number_of_fault;
@@ -80,7 +81,7 @@ pub extern "C" fn gix_mailmap_text_parse(
     parsed: &mut Parsed,
 ) -> u32
     ensures next { ParsesNext text.now cursor.old cursor.new parsed.old parsed.new result }
-    ensures held { result ≡ 0 → IsHeld text.now parsed.new }
+    ensures held { result ≡ OK → IsHeld text.now parsed.new }
 {
     let Some((found, after)) = next_parsed(text, *cursor) else {
         return NO_ENTRY;

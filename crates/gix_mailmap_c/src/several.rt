@@ -227,8 +227,8 @@ pub extern "C" fn gix_mailmap_text_explain(
     out: &mut [u8],
     needed: &mut usize,
 ) -> u32
-    ensures { IsOutput (ExplainsAll (names_in lengths.now names.now) (texts_in lengths.now texts.now)
-        (Some contacts.now)) out.old out.new needed.new result }
+    ensures { IsOutput (ExplainsAll (names_in lengths.now names.now) (texts_in lengths.now texts.now) contacts.now)
+        out.old out.new needed.new result }
 {
     let made = explained(alloc, lengths, names, texts, contacts);
     hand(made, out, needed)
@@ -242,7 +242,7 @@ fn explained(
     contacts: &[u8],
 ) -> Made<u8>
     ensures { IfOk result (λ text. ExplainsAll (names_in lengths.now names.now) (texts_in lengths.now texts.now)
-        (Some contacts.now) text.items) }
+        contacts.now text.items) }
 {
     let names = names_of(alloc, lengths, names)?;
     let buffers = texts_of(alloc, lengths, texts)?;

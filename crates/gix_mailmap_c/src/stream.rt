@@ -3,6 +3,7 @@ ghost use Rattle.std.specs.Prelude.{◌≡◌, None, MatchOption};
 ghost use Rattle.gix_mailmap_c.specs.Handles.{content_of, pending, Finishes, Holds, LeavesHandle, Opens, Pushes};
 ghost use Rattle.gix_mailmap_c.specs.Streamed.{AreTaken, IsNew};
 ghost use Rattle.gix_mailmap_c.specs.declared.held.Content.TheVariants.{Stream};
+ghost use Rattle.gix_mailmap_c.specs.declared.status.TheConstants.{CLOSED, OK};
 
 pub mod contacts;
 
@@ -45,7 +46,7 @@ pub extern "C" fn gix_mailmap_stream_handle_push(
     taken: &mut usize,
 ) -> u32
     ensures { MatchOption (pending s.old)
-        ((taken.new ≡ taken.old) × LeavesHandle 6 (content_of s.old) (content_of s.new) result)
+        ((taken.new ≡ taken.old) × LeavesHandle CLOSED (content_of s.old) (content_of s.new) result)
         (λ p. Pushes part.now p (content_of s.new) taken.new result) }
 {
     held_in!(s, Stream(contacts));
@@ -63,7 +64,7 @@ pub extern "C" fn gix_mailmap_stream_handle_push(
 /// Returns `OK`; `OUT_OF_MEMORY`, and the stream is unchanged; or `CLOSED`.
 #[unsafe(no_mangle)]
 pub extern "C" fn gix_mailmap_stream_handle_finish(s: &mut Handle) -> u32
-    ensures { MatchOption (pending s.old) (LeavesHandle 6 (content_of s.old) (content_of s.new) result)
+    ensures { MatchOption (pending s.old) (LeavesHandle CLOSED (content_of s.old) (content_of s.new) result)
         (λ p. Finishes p (content_of s.new) result) }
 {
     held_in!(s, Stream(contacts));
@@ -83,8 +84,9 @@ pub extern "C" fn gix_mailmap_stream_handle_read(
     count: &mut usize,
 ) -> u32
     ensures { MatchOption (pending s.old)
-        ((out.new ≡ out.old) × (count.new ≡ count.old) × LeavesHandle 6 (content_of s.old) (content_of s.new) result)
-        (λ p. (result ≡ 0) × Holds Stream (λ q. AreTaken p q out.old out.new count.new) (content_of s.new)) }
+        ((out.new ≡ out.old) × (count.new ≡ count.old)
+        × LeavesHandle CLOSED (content_of s.old) (content_of s.new) result)
+        (λ p. (result ≡ OK) × Holds Stream (λ q. AreTaken p q out.old out.new count.new) (content_of s.new)) }
 {
     held_in!(s, Stream(contacts));
     *count = contacts.read(out);

@@ -99,7 +99,7 @@ entries
     P <x@y>
     <n@y> "" <x@y>
     2
-# two entries when the snapshot is made, and two later
+# four entries when the snapshot is made, and two later
 new A <a@x>; <e1@y> Bob <b@x>; <e2@y> Jane <b@x>; C <c@x>
 merge <e3@y> Zoe <a@x>; <e4@y> BOB <B@x>
     Ok(())

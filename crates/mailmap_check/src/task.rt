@@ -1,7 +1,7 @@
 //! Parses the arguments of `mailmap_check`, and runs what they ask for.
 ghost use Rattle.std.specs.Prelude.{◌≡◌, ◌⊎◌, IfErr, IsNone};
 ghost use Rattle.command_line.specs.Failures.{IsOfInput};
-ghost use Rattle.command_line.specs.Files.{texts};
+ghost use Rattle.mailmap_entries.specs.Texts.{texts};
 ghost use Rattle.mailmap_check.specs.Task.{FailsFor, Leaves, LeavesBy, asked, file_bytes};
 
 use crate::run::{run, run_compact};

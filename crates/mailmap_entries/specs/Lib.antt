@@ -3,6 +3,7 @@ pub mod Prefixes
 pub mod Entries
 pub mod Search
 pub mod Semantics
+pub mod Texts
 pub mod Alike
 pub mod Listings
 pub mod Building

@@ -13,7 +13,8 @@ use Rattle.std.proofs.lemmas.List.Sorted.{searchable_from_sorted}
 use Rattle.std.proofs.lemmas.Map.Lookups.{exact_bytes}
 use Rattle.std.proofs.lemmas.Slice.Eq.{bytes_eq-Decides}
 use Rattle.mailmap_entries.specs.Folding.{Text, text_cmp}
-use Rattle.mailmap_names.specs.Keys.{ascending, has_common, inserted, is_among, texts}
+use Rattle.mailmap_names.specs.Keys.{ascending, has_common, inserted, is_among}
+use Rattle.mailmap_entries.specs.Texts.{texts}
 use Rattle.mailmap_names.specs.Private.{AreSorted}
 use Rattle.mailmap_names.proofs.Orders.{le}
 use Rattle.mailmap_names.proofs.Spelling.{list_any-map}

@@ -7,7 +7,8 @@ use Rattle.std.proofs.lemmas.Bool.{cases_Bool, cond-true, cond-false}
 use Rattle.std.proofs.lemmas.List.{length-map, map_more}
 use Rattle.std.proofs.lemmas.Str.{IsUtf8-string_bytes, chars-append, encodes-chars}
 use Rattle.mailmap_entries.specs.Folding.{Text}
-use Rattle.mailmap_names.specs.Keys.{characters, first_words_of, has_common, is_among, is_nobody, is_placeholder, joined_key, keys_of, long_words, main_words, sorted_key, telling_words_of, texts, together}
+use Rattle.mailmap_names.specs.Keys.{characters, first_words_of, has_common, is_among, is_nobody, is_placeholder, joined_key, keys_of, long_words, main_words, sorted_key, telling_words_of, together}
+use Rattle.mailmap_entries.specs.Texts.{texts}
 use Rattle.mailmap_names.specs.Private.{is_longer, main_strings, spaced}
 
 -- ---- strings

@@ -1,16 +1,13 @@
 -- Keys and marks of names, which alike names have in common, and what makes names related.
 use Rattle.std.specs.Prelude.{ℕ, Bool, ◌||◌, if◌then◌else◌, nat_lt, nat_le, List, [], ◌∷◌, ◌++◌, length, map, filter}
 use Rattle.std.specs.Prelude.{String, bytes_eq, chars, codes, encode_utf8_all, string_bytes}
-use Rattle.std.specs.Global.{Global, Vec}
+use Rattle.std.specs.Global.{Global}
 use Rattle.std.specs.List.{concat, join_with_byte, list_any}
 use Rattle.std.specs.Ordering.{is_le}
 use Rattle.mailmap_entries.specs.Folding.{Text, folded, text_cmp}
 use Rattle.mailmap_names.specs.Words.{words}
 
 -- ---- texts
-
-abbrev pub texts : List (Vec ℕ) → List Text
-texts vectors = map (λ v. v.items) vectors
 
 -- the characters of strings
 abbrev pub characters : List (String Global) → List (List ℕ)

@@ -3,7 +3,8 @@ ghost use Rattle.std.specs.Prelude.{◌≡◌, ◌||◌, ◌∷◌, ◌++◌, ch
 ghost use Rattle.std.specs.Prelude.{string_bytes, IfOk, OnOk};
 ghost use Rattle.std.specs.List.{concat, join_with_byte};
 ghost use Rattle.mailmap_names.specs.Keys.{ascending, characters, first_words_of, is_placeholder, keys_of, main_words};
-ghost use Rattle.mailmap_names.specs.Keys.{sorted_key, telling_words_of, texts};
+ghost use Rattle.mailmap_names.specs.Keys.{sorted_key, telling_words_of};
+ghost use Rattle.mailmap_entries.specs.Texts.{texts};
 ghost use Rattle.mailmap_names.specs.Private.{AreSorted, is_longer, main_strings, spaced};
 
 use std::alloc::{AllocError, Global};

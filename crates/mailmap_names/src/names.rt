@@ -3,7 +3,8 @@ ghost use Rattle.std.specs.Prelude.{◌≡◌, ◌++◌, bytes_eq, codes, IfOk, 
 ghost use Rattle.std.specs.List.{list_any};
 ghost use Rattle.mailmap_entries.specs.Folding.{folded};
 ghost use Rattle.mailmap_names.specs.Keys as spec;
-ghost use Rattle.mailmap_names.specs.Keys.{ascending, characters, has_common, is_among, texts};
+ghost use Rattle.mailmap_names.specs.Keys.{ascending, characters, has_common, is_among};
+ghost use Rattle.mailmap_entries.specs.Texts.{texts};
 ghost use Rattle.mailmap_names.specs.Logins.{login_keys};
 ghost use Rattle.mailmap_names.specs.Private.{AreSorted};
 ghost use Rattle.mailmap_names.specs.Words as words_spec;

@@ -7,7 +7,6 @@ use Rattle.mailmap_entries.specs.Folding.{Text}
 use Rattle.mailmap_redundancy.specs.Origins.{Origins, origins}
 use Rattle.mailmap_entries.specs.Semantics.{Fields, answer_of}
 use Rattle.mailmap_grammar.specs.Lines.{ParsedContact, Absent, Unclosed, Closed, contact_in}
-use Rattle.command_line.specs.Answering.{AnswersAll}
 use Rattle.mailmap_findings.specs.Positions.{located_lines, located, whole_lines}
 use Rattle.mailmap_redundancy.specs.Redundancy.{AreEffective, LocatedMapping, entries}
 use Rattle.mailmap_grammar.specs.Trimming.{trim}
@@ -65,6 +64,6 @@ abbrev pub Explains : List Text → List Text → ((Text → Text) → Text → 
 Explains paths mailmaps IsText text =
     (g : Grounds) × AreGrounds paths mailmaps g × IsText (each_line (explained_line g)) text
 
--- It explains all lines of the input.
-abbrev pub ExplainsAll : List Text → List Text → Option Text → Text → Type 0
-ExplainsAll paths mailmaps input text = Explains paths mailmaps (λ answers. AnswersAll answers input) text
+-- It explains all lines of these contacts.
+abbrev pub ExplainsAll : List Text → List Text → Text → Text → Type 0
+ExplainsAll paths mailmaps contacts text = Explains paths mailmaps (λ answers made. made ≡ answers contacts) text

@@ -1,6 +1,6 @@
 //! Explains contacts: which lines of mailmaps are behind their answers.
 ghost use Rattle.std.specs.Prelude.{◌≡◌, ◌++◌, IfOk, OnErr, OnOk};
-ghost use Rattle.command_line.specs.Files.{texts};
+ghost use Rattle.mailmap_entries.specs.Texts.{texts};
 ghost use Rattle.mailmap_entries.specs.Semantics.{answer_of};
 ghost use Rattle.mailmap_redundancy.specs.Origins.{origins};
 ghost use Rattle.mailmap_redundancy.specs.Redundancy.{entries};

@@ -1,7 +1,7 @@
 //! What is reported at a line: a finding of any kind, in words.
 ghost use Rattle.std.specs.Prelude.{◌≡◌, ◌++◌, IfOk, OnOk};
 ghost use Rattle.std.specs.Option.{option_map};
-ghost use Rattle.command_line.specs.Files.{texts};
+ghost use Rattle.mailmap_entries.specs.Texts.{texts};
 ghost use Rattle.mailmap_contacts.specs.Answers.{tally_of};
 ghost use Rattle.mailmap_findings.specs.Findings.{contact_of, finding_of, kind_of};
 ghost use Rattle.mailmap_findings.specs.Git.{git_reading_of};

@@ -2,7 +2,7 @@
 ghost use Rattle.std.specs.Prelude.{◌≡◌, ◌++◌, ◌∷◌, [], IfOk, List, OnOk, map};
 ghost use Rattle.std.specs.Iterator.{YieldsFirstBy};
 ghost use Rattle.std.specs.Slice.Iter.{iter_rest};
-ghost use Rattle.command_line.specs.Files.{texts};
+ghost use Rattle.mailmap_entries.specs.Texts.{texts};
 ghost use Rattle.shown_text.specs.Shown.{shown};
 ghost use Rattle.mailmap_report.specs.Json.{notice_of};
 ghost use Rattle.mailmap_report.specs.Report.{Piece as ThePiece, notice_piece, notice_text, piece_of, pieces_beside};

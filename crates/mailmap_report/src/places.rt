@@ -1,6 +1,6 @@
 //! Places of lines: the file and the number.
 ghost use Rattle.std.specs.Prelude.{◌≡◌, ◌++◌, ◌∷◌, OnOk, option_to_list};
-ghost use Rattle.command_line.specs.Files.{texts};
+ghost use Rattle.mailmap_entries.specs.Texts.{texts};
 ghost use Rattle.mailmap_report.specs.Json.{file_line_of};
 ghost use Rattle.mailmap_report.specs.Report.{file_name, place_at, place_text, position_text, positions_text};
 

@@ -1,7 +1,7 @@
 //! Which findings are reported and how, and under which names.
 ghost use Rattle.std.specs.Prelude.{◌≡◌};
 ghost use Rattle.std.specs.List.{list_any};
-ghost use Rattle.command_line.specs.Files.{texts};
+ghost use Rattle.mailmap_entries.specs.Texts.{texts};
 ghost use Rattle.mailmap_report.specs.Kinds.{same_kind};
 ghost use Rattle.mailmap_report.specs.Settings.{choices_of, counts, format_of, input_name, is_reported, level_rank};
 ghost use Rattle.mailmap_report.specs.Settings.{mailmap_names, no_choices};

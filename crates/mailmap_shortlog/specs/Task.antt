@@ -4,7 +4,8 @@ use Rattle.std.specs.List.{list_all, list_any}
 use Rattle.std.specs.Str.{bytes_eq}
 use Rattle.bstr.specs.Text.{lines_of}
 use Rattle.mailmap_snapshot.specs.Folding.{Text}
-use Rattle.command_line.specs.Files.{AreRead, AtPath, FailsForDefault, IsDefault, NamesFile, default_path, texts}
+use Rattle.command_line.specs.Files.{AreRead, AtPath, FailsForDefault, IsDefault, NamesFile, default_path}
+use Rattle.mailmap_entries.specs.Texts.{texts}
 use Rattle.command_line.specs.declared.TheConstants.{VERSION}
 use Rattle.command_line.specs.Failures.{IsOfFile}
 use Rattle.command_line.specs.declared.failure.Failure.{Failure}

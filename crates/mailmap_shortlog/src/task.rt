@@ -2,7 +2,7 @@
 ghost use Rattle.std.specs.Prelude.{◌≡◌, ◌⊎◌, IfErr, IfOk, Ok, drop};
 ghost use Rattle.std.specs.List.{list_all};
 ghost use Rattle.command_line.specs.Failures.{IsOfFile};
-ghost use Rattle.command_line.specs.Files.{texts};
+ghost use Rattle.mailmap_entries.specs.Texts.{texts};
 ghost use Rattle.command_line.specs.Printing.{LeavesText};
 ghost use Rattle.mailmap_shortlog.specs.Task.{AreMailmaps, FailsFor, IsAnswer, IsSkipped, NamesMailmap, Reads, asked, asked_of};
 ghost use Rattle.mailmap_shortlog.specs.Task.{is_option, no_options, options_with, skipped_line, skipped_of};

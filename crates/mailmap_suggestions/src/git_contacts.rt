@@ -6,7 +6,7 @@ ghost use Rattle.mailmap_contacts.specs.Contacts as spec;
 ghost use Rattle.mailmap_contacts.specs.Contacts.{read_by};
 ghost use Rattle.mailmap_contacts.specs.Counts.{AreContactsOf};
 ghost use Rattle.mailmap_entries.specs.Folding.{Text};
-ghost use Rattle.mailmap_findings.specs.Git.{is_git_space};
+ghost use Rattle.mailmap_findings.specs.Git.{is_git_space as spec_is_git_space};
 ghost use Rattle.mailmap_suggestions.specs.Counted.{git_answered};
 ghost use Rattle.mailmap_suggestions.specs.GitContacts.{git_answers_otherwise, git_contacts, has_zero as spec_has_zero};
 ghost use Rattle.mailmap_suggestions.specs.GitContacts.{is_answered_otherwise as spec_is_answered_otherwise};
@@ -17,6 +17,7 @@ use mailmap_contacts::answers::{Tally, by_first_lines};
 use mailmap_contacts::counter::Contacts;
 use mailmap_contacts::occurrences::add_to;
 use mailmap_contacts::proper::is_same;
+use mailmap_findings::git::is_git_space;
 use mailmap_grammar::contacts::trim;
 use std::alloc::{AllocError, Global};
 use std::collections::BTreeMap;
@@ -87,9 +88,8 @@ fn trimmed<'a>(contact: &Tally<'a>) -> Tally<'a>
     }
 }
 
-// git's own `isspace` has no vertical tab and no form feed.
 fn trim_end_of_name(name: &[u8]) -> &[u8]
-    ensures { result.now ≡ trim_end_by is_git_space name.now }
+    ensures { result.now ≡ trim_end_by spec_is_git_space name.now }
 {
-    name.trim_end_with(|c| matches!(c, ' ' | '\t' | '\r' | '\n'))
+    name.trim_end_with(is_git_space)
 }

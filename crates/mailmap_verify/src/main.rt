@@ -87,34 +87,27 @@ fn say(rt: &HostRuntime, line: Result<Vec<u8>, AllocError>) {
 
 // The message for a wrong argument, and the usage. Fails if there was no memory for the arguments.
 fn misuse_lines(alloc: Global, error: &ParseError) -> Result<Vec<u8>, AllocError> {
-    let what = words_of(error)?.concat(alloc)?;
+    let (words, argument) = match error {
+        ParseError::UnknownOption(option) => (["unknown option: ", "", ""], option.as_slice()),
+        ParseError::SecondMode(option) => (["a second mode: ", "", ""], option.as_slice()),
+        ParseError::NoValue(setting, option) => {
+            (["no ", value_of(*setting), " after "], option.as_slice())
+        }
+        ParseError::UnknownValue(setting, value) => {
+            (["unknown ", value_of(*setting), ": "], value.as_slice())
+        }
+        ParseError::Unused(mode, setting) => {
+            (
+                [name_of(*mode), " takes no ", ""],
+                setting.name().as_bytes(),
+            )
+        }
+        ParseError::InPlaceAlone => (["--in-place needs --prune", "", ""], b"".as_slice()),
+        ParseError::Memory => return Err(AllocError),
+    };
+    let what = words.concat(alloc)?;
     let help = help_lines(alloc, error)?;
-    let argument = argument_of(error);
     messages::misuse_lines(alloc, PROGRAM, what.as_bytes(), argument, help.as_slice())
-}
-
-fn words_of(error: &ParseError) -> Result<[&'static str; 3], AllocError> {
-    match error {
-        ParseError::UnknownOption(_) => Ok(["unknown option: ", "", ""]),
-        ParseError::SecondMode(_) => Ok(["a second mode: ", "", ""]),
-        ParseError::NoValue(setting, _) => Ok(["no ", value_of(*setting), " after "]),
-        ParseError::UnknownValue(setting, _) => Ok(["unknown ", value_of(*setting), ": "]),
-        ParseError::Unused(mode, _) => Ok([name_of(*mode), " takes no ", ""]),
-        ParseError::InPlaceAlone => Ok(["--in-place needs --prune", "", ""]),
-        ParseError::Memory => Err(AllocError),
-    }
-}
-
-// The argument that the message ends with.
-fn argument_of(error: &ParseError) -> &[u8] {
-    match error {
-        ParseError::UnknownOption(argument)
-        | ParseError::SecondMode(argument)
-        | ParseError::NoValue(_, argument)
-        | ParseError::UnknownValue(_, argument) => argument.as_slice(),
-        ParseError::Unused(_, setting) => setting.name().as_bytes(),
-        ParseError::InPlaceAlone | ParseError::Memory => b"",
-    }
 }
 
 // What there is in place of an unknown value, and the usage.

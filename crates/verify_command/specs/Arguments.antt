@@ -5,7 +5,8 @@ use Rattle.std.specs.Str.{bytes_eq}
 use Rattle.bstr.specs.Text.{split_at}
 use Rattle.bstr.specs.Find.{first_of, matches}
 use Rattle.mailmap_entries.specs.Folding.{Text}
-use Rattle.command_line.specs.Files.{default_path, texts}
+use Rattle.command_line.specs.Files.{default_path}
+use Rattle.mailmap_entries.specs.Texts.{texts}
 use Rattle.mailmap_report.specs.Kinds.{kind_named}
 use Rattle.mailmap_report.specs.Settings.{Choices, choices_of, input_name, no_choices}
 use Rattle.mailmap_report.specs.declared.settings.Format.{Format}

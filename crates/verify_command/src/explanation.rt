@@ -3,7 +3,8 @@ ghost use Rattle.std.specs.Prelude.{◌≡◌, ◌⊎◌, IfErr, List, OnOk, Opt
 ghost use Rattle.std.specs.Io.KnownBytes.{Consumes, IsAtEnd};
 ghost use Rattle.command_line.specs.Answering.{LeavesLines};
 ghost use Rattle.command_line.specs.Failures.{IsOfInput};
-ghost use Rattle.command_line.specs.Files.{AreRead, AtPath, texts};
+ghost use Rattle.command_line.specs.Files.{AreRead, AtPath};
+ghost use Rattle.mailmap_entries.specs.Texts.{texts};
 ghost use Rattle.mailmap_entries.specs.Folding.{Text};
 ghost use Rattle.mailmap_findings.proofs.WholeLines.{whole_in_order};
 ghost use Rattle.mailmap_report.specs.Explained.{each_line, explained_line};

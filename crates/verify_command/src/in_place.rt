@@ -1,6 +1,6 @@
 //! Prunes mailmaps in their files.
 ghost use Rattle.std.specs.Prelude.{◌≡◌, ◌++◌, [], IfErr, IfOk, List, OnErr, OnOk, map, slice_index_or};
-ghost use Rattle.command_line.specs.Files.{texts};
+ghost use Rattle.mailmap_entries.specs.Texts.{texts};
 ghost use Rattle.command_line.specs.declared.outcome.Outcome.TheVariants.{Clean as TheClean};
 ghost use Rattle.mailmap_entries.specs.Folding.{Text};
 ghost use Rattle.mailmap_findings.specs.Findings.{IsPruned};

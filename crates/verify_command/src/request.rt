@@ -2,7 +2,7 @@
 ghost use Rattle.std.specs.Prelude.{◌≡◌, [], Err, None, OnOk, drop, false, length, true};
 ghost use Rattle.std.specs.Option.{option_copied};
 ghost use Rattle.std.specs.Vec.Iter.{into_iter_items, into_iter_len};
-ghost use Rattle.command_line.specs.Files.{texts};
+ghost use Rattle.mailmap_entries.specs.Texts.{texts};
 ghost use Rattle.verify_command.specs.Arguments.{IsAnswer, IsAsked, asked, asked_in, can_be_mailmap, checked, contacts_name};
 ghost use Rattle.verify_command.specs.Arguments.{ended, finished, format_named, is_only_dash, kinds_after, level_named, name_in, names_in};
 ghost use Rattle.verify_command.specs.Arguments.{plain, reads_contacts, reads_default, reads_mailmap, reports, setting_named, setting_word};

@@ -2,7 +2,7 @@
 ghost use Rattle.std.specs.Prelude.{◌≡◌, ◌<◌, ◌⊎◌, IfErr, IfOk, IsErrOf, OnOk, false, length, map, true};
 ghost use Rattle.std.specs.Io.KnownBytes.{IsAtEnd};
 ghost use Rattle.command_line.specs.Failures.{IsOfFile};
-ghost use Rattle.command_line.specs.Files.{texts};
+ghost use Rattle.mailmap_entries.specs.Texts.{texts};
 ghost use Rattle.verify_command.specs.Task.{AreInFiles, AreMailmaps, EndsPrinting, FailsFor, FailsToPrune, FailsToRead, HasLog, IsKnown};
 ghost use Rattle.verify_command.specs.Task.{IsOfMailmap, IsPrunedFrom, Leaves, LeavesFor, NamesMailmap, ReadsInput, ReplacesFor, reads_contacts};
 ghost use Rattle.verify_command.specs.Task.{reads_mailmap, version_line, wanted_of};

@@ -1,7 +1,8 @@
 use Rattle.std.proofs.Common.{rules, ◌≡◌, ◌+◌, ◌<◌, ◌++◌, ◌∷◌, [], ◌∙◌, ℕ, List, ap, arith, below_more, get_or, length, map, sym, Err, Vec, Global}
 use Rattle.std.proofs.Math.Seq.{get_or-append_seam}
 use Rattle.std.proofs.lemmas.List.{get_or-map, get_or_append_left, length-map, map-append}
-use Rattle.command_line.specs.Files.{Gives, texts}
+use Rattle.command_line.specs.Files.{Gives}
+use Rattle.mailmap_entries.specs.Texts.{texts}
 use Rattle.command_line.proofs.FirstUnread.{first_unread}
 use Rattle.command_line.proofs.files.read_files.Goals as goal
 

@@ -1,6 +1,6 @@
 use Rattle.std.proofs.Common.{List, ℕ, Bor, map, subst, sym}
 use Rattle.std.specs.Prelude.{IfOk}
-use Rattle.command_line.specs.Files.{texts}
+use Rattle.mailmap_entries.specs.Texts.{texts}
 use Rattle.mailmap_findings.specs.Needs.{AreUnneeded}
 use Rattle.mailmap_findings.specs.Positions.{whole_lines}
 use Rattle.mailmap_report.specs.Settings.{choices_of}

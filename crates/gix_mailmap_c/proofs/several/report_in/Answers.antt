@@ -1,5 +1,5 @@
 use Rattle.std.proofs.Common.{rules, Bor, List, ℕ, map}
-use Rattle.command_line.specs.Files.{texts}
+use Rattle.mailmap_entries.specs.Texts.{texts}
 use Rattle.mailmap_entries.proofs.Results.{if_ok_map}
 use Rattle.mailmap_findings.specs.Findings.{AreFindings}
 use Rattle.mailmap_report.specs.Settings.{choices_of}

@@ -1,6 +1,6 @@
 use Rattle.std.proofs.Common.{rules, ◌≡◌, ap, map, subst, sym}
 use Rattle.std.specs.Slice.Iter.{iter_rest}
-use Rattle.command_line.specs.Files.{texts}
+use Rattle.mailmap_entries.specs.Texts.{texts}
 use Rattle.mailmap_entries.proofs.Results.{if_ok_map}
 use Rattle.mailmap_findings.specs.Positions.{whole_lines}
 use Rattle.mailmap_findings.specs.Remarks.{AreRemarks}

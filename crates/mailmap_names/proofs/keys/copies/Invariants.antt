@@ -1,5 +1,5 @@
 use Rattle.std.proofs.Common.{◌≡◌, map, string_bytes, take}
-use Rattle.mailmap_names.specs.Keys.{texts}
+use Rattle.mailmap_entries.specs.Texts.{texts}
 use Rattle.mailmap_names.proofs.keys.copies.Given as goal
 
 abbrev pub invariant-loop-word : goal.invariant-loop-word

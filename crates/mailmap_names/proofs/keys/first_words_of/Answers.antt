@@ -1,5 +1,5 @@
 use Rattle.std.proofs.Common.{◌∙◌, [], ◌∷◌, ◌++◌, ap, string_bytes}
-use Rattle.mailmap_names.specs.Keys.{texts}
+use Rattle.mailmap_entries.specs.Texts.{texts}
 use Rattle.mailmap_names.proofs.Spelling.{first_some}
 use Rattle.mailmap_names.proofs.keys.first_words_of.Goals as goal
 

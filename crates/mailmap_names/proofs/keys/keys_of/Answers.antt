@@ -1,5 +1,6 @@
 use Rattle.std.proofs.Common.{◌∙◌, ◌||◌, [], ◌∷◌, ◌++◌, ap, chars, length, ltb, sym}
-use Rattle.mailmap_names.specs.Keys.{characters, is_placeholder, main_words, sorted_key, texts}
+use Rattle.mailmap_names.specs.Keys.{characters, is_placeholder, main_words, sorted_key}
+use Rattle.mailmap_entries.specs.Texts.{texts}
 use Rattle.mailmap_names.proofs.Spelling.{keys_none, keys_some}
 use Rattle.mailmap_names.proofs.keys.keys_of.Goals as goal
 

@@ -1,6 +1,6 @@
 use Rattle.std.proofs.Common.{◌∙◌, ◌∷◌, ap, sym}
 use Rattle.mailmap_entries.specs.Folding.{folded}
-use Rattle.mailmap_names.specs.Keys.{texts}
+use Rattle.mailmap_entries.specs.Texts.{texts}
 use Rattle.mailmap_names.proofs.Marks.{marks_none, marks_some}
 use Rattle.mailmap_names.proofs.names.name_marks.Goals as goal
 

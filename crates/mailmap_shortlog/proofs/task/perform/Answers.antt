@@ -1,5 +1,5 @@
 use Rattle.std.proofs.Common.{rules, ◌≡◌, Err}
-use Rattle.command_line.specs.Files.{texts}
+use Rattle.mailmap_entries.specs.Texts.{texts}
 use Rattle.mailmap_shortlog.proofs.Listing.{leaves_err, leaves_ok, leaves_weaker}
 use Rattle.mailmap_shortlog.proofs.task.perform.Goals as goal
 

@@ -1,6 +1,6 @@
 -- The texts so far are marks.
 use Rattle.std.proofs.Common.{◌≡◌}
-use Rattle.mailmap_names.specs.Keys.{texts}
+use Rattle.mailmap_entries.specs.Texts.{texts}
 use Rattle.mailmap_suggestions.specs.LinkViews.{mark_texts}
 use Rattle.mailmap_suggestions.proofs.marks.marks_of.Given as goal
 

@@ -1,5 +1,5 @@
 use Rattle.std.proofs.Common.{arith}
-use Rattle.command_line.specs.Files.{texts}
+use Rattle.mailmap_entries.specs.Texts.{texts}
 use Rattle.verify_command.proofs.PrunedFiles.{prunes_next, prunes_none}
 use Rattle.verify_command.proofs.in_place.replace_all.Goals as goal
 

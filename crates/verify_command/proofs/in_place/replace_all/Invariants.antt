@@ -1,6 +1,6 @@
 -- The mailmaps so far are pruned.
 use Rattle.std.proofs.Common.{map, take}
-use Rattle.command_line.specs.Files.{texts}
+use Rattle.mailmap_entries.specs.Texts.{texts}
 use Rattle.verify_command.specs.InPlace.{Prunes}
 use Rattle.verify_command.proofs.in_place.replace_all.Given as goal
 

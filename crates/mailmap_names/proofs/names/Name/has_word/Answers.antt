@@ -1,5 +1,6 @@
 use Rattle.std.proofs.Common.{◌∙◌, ap, subst, sym}
-use Rattle.mailmap_names.specs.Keys.{telling_words, texts}
+use Rattle.mailmap_names.specs.Keys.{telling_words}
+use Rattle.mailmap_entries.specs.Texts.{texts}
 use Rattle.mailmap_names.specs.Private.{AreSorted}
 use Rattle.mailmap_names.proofs.Searches.{found_is}
 use Rattle.mailmap_names.proofs.names.Name.has_word.Goals as goal

@@ -1,5 +1,6 @@
 use Rattle.std.proofs.Common.{◌∙◌, ◌||◌, ap, sym}
-use Rattle.mailmap_names.specs.Keys.{has_common, keys, texts}
+use Rattle.mailmap_names.specs.Keys.{has_common, keys}
+use Rattle.mailmap_entries.specs.Texts.{texts}
 use Rattle.mailmap_names.proofs.Marks.{alike_empty, alike_names, alike_none}
 use Rattle.mailmap_names.proofs.Spelling.{common_texts}
 use Rattle.mailmap_names.proofs.names.Name.is_alike.Goals.{then-is_empty-via-then-is_empty, then-is_empty-via-else-is_empty+then-is_empty-2}
