@@ -1,7 +1,4 @@
-/* A file that is read, and contacts that are cut out of it: what the C programs of this folder share. */
-#ifndef C_CONTACTS_H
-#define C_CONTACTS_H
-
+/* A file that is read, and a contact that is cut out of a line: what the C programs of this folder share. */
 #include <stdbool.h>
 #include <stdio.h>
 #include <stdlib.h>
@@ -17,11 +14,6 @@ typedef struct {
     text email;
 } contact;
 
-typedef struct {
-    contact *all;
-    size_t len;
-} contacts;
-
 static void must(bool holds, const char *what)
 {
     if (!holds) {
@@ -33,11 +25,9 @@ static void must(bool holds, const char *what)
 static text read_file(const char *path)
 {
     FILE *file = fopen(path, "rb");
-    must(file != NULL && fseek(file, 0, SEEK_END) == 0, path);
-    long len = ftell(file);
-    must(len >= 0, path);
+    must(file != NULL && fseek(file, 0, SEEK_END) == 0 && ftell(file) >= 0, path);
+    text read = {malloc((size_t)ftell(file) + 1), (size_t)ftell(file)};
     rewind(file);
-    text read = {malloc((size_t)len + 1), (size_t)len};
     must(read.bytes != NULL && fread(read.bytes, 1, read.len, file) == read.len, path);
     read.bytes[read.len] = 0;
     fclose(file);
@@ -55,23 +45,12 @@ static text cut(char *start, char *end)
     return (text){start, (size_t)(end - start)};
 }
 
-/* The contacts of lines like `Jane <jane@x>`, cut out of the text in place. */
-static contacts contacts_of(text lines)
+/* Cuts the contact out of a line like `Jane <jane@x>`, if it is one. */
+static bool is_contact(char *line, size_t len, contact *found)
 {
-    contacts found = {malloc((lines.len / 2 + 1) * sizeof(contact)), 0};
-    must(found.all != NULL, "out of memory");
-    for (char *at = lines.bytes, *end = at + lines.len; at < end;) {
-        char *feed = memchr(at, '\n', (size_t)(end - at));
-        char *line_end = feed ? feed : end;
-        char *open = memchr(at, '<', (size_t)(line_end - at));
-        char *close = open ? memchr(open, '>', (size_t)(line_end - open)) : NULL;
-        if (close) {
-            text email = cut(open + 1, close);
-            found.all[found.len++] = (contact){cut(at, open), email};
-        }
-        at = line_end + 1;
-    }
-    return found;
+    char *open = memchr(line, '<', len);
+    char *close = open ? memchr(open, '>', len - (size_t)(open - line)) : NULL;
+    if (close)
+        *found = (contact){cut(line, open), cut(open + 1, close)};
+    return close != NULL;
 }
-
-#endif

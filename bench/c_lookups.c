@@ -17,30 +17,27 @@
 #include "c_contacts.h"
 #include "gix_mailmap.h"
 #include <git2.h>
-#include <pthread.h>
-#include <stdatomic.h>
 #include <stdint.h>
 #include <time.h>
 
-enum { MOST_THREADS = 4 };
-
-/* the work of one thread, and its results */
 typedef struct {
-    const gix_mailmap *map;
-    contacts given;
-    atomic_int *missing;
-    long long start;
-    long long end;
-    long long processor;
-    size_t texts;
-} job;
+    contact *all;
+    size_t len;
+} contacts;
 
 /* how long a round took, and how much processor time all threads used */
 typedef struct {
-    long long time;
-    long long processor;
-    size_t texts;
+    long long time, processor;
 } taken;
+
+static contacts contacts_of(text lines)
+{
+    contacts found = {malloc((lines.len / 2 + 1) * sizeof(contact)), 0};
+    must(found.all != NULL, "out of memory");
+    for (char *rest, *line = strtok_r(lines.bytes, "\n", &rest); line; line = strtok_r(NULL, "\n", &rest))
+        found.len += is_contact(line, strlen(line), &found.all[found.len]);
+    return found;
+}
 
 static size_t read_text(const char *bytes, size_t len)
 {
@@ -63,14 +60,14 @@ static size_t look_up_here(const gix_mailmap *map, contacts given)
 
 static size_t look_up_there(const git_mailmap *map, contacts given)
 {
-    size_t texts = 0;
+    size_t first_bytes = 0;
     for (size_t i = 0; i < given.len; i++) {
         const contact *c = &given.all[i];
         const char *name, *email;
         must(git_mailmap_resolve(&name, &email, map, c->name.bytes, c->email.bytes) == 0, "lookup");
-        texts += (uint8_t)name[0] + (uint8_t)email[0];
+        first_bytes += (uint8_t)name[0] + (uint8_t)email[0];
     }
-    return texts;
+    return first_bytes;
 }
 
 static long long now(clockid_t clock)
@@ -80,52 +77,34 @@ static long long now(clockid_t clock)
     return time.tv_sec * 1000000000LL + time.tv_nsec;
 }
 
-static void *run_job(void *given)
+static long long least(long long a, long long b)
 {
-    job *own = given;
-    /* all begin at once; a thread that sleeps until then would begin late */
-    atomic_fetch_sub(own->missing, 1);
-    while (atomic_load(own->missing) > 0)
-        ;
-    own->start = now(CLOCK_MONOTONIC);
-    long long used = now(CLOCK_THREAD_CPUTIME_ID);
-    own->texts = look_up_here(own->map, own->given);
-    own->processor = now(CLOCK_THREAD_CPUTIME_ID) - used;
-    own->end = now(CLOCK_MONOTONIC);
-    return NULL;
+    return a < b ? a : b;
 }
 
 static taken run_round(const gix_mailmap *map, contacts given, int threads)
 {
-    pthread_t started[MOST_THREADS];
-    job jobs[MOST_THREADS];
-    atomic_int missing = threads;
-    for (int i = 0; i < threads; i++) {
-        jobs[i] = (job){.map = map, .given = given, .missing = &missing};
-        must(pthread_create(&started[i], NULL, run_job, &jobs[i]) == 0, "no thread");
-    }
     long long start = INT64_MAX, end = 0, processor = 0;
-    for (int i = 0; i < threads; i++) {
-        must(pthread_join(started[i], NULL) == 0 && jobs[i].texts == jobs[0].texts, "other answers");
-        start = jobs[i].start < start ? jobs[i].start : start;
-        end = jobs[i].end > end ? jobs[i].end : end;
-        processor += jobs[i].processor;
+#pragma omp parallel num_threads(threads) reduction(min : start) reduction(max : end) reduction(+ : processor)
+    {
+        /* all begin at once */
+#pragma omp barrier
+        start = now(CLOCK_MONOTONIC);
+        long long used = now(CLOCK_THREAD_CPUTIME_ID);
+        must(look_up_here(map, given) > 0, "no answers");
+        processor = now(CLOCK_THREAD_CPUTIME_ID) - used;
+        end = now(CLOCK_MONOTONIC);
     }
-    return (taken){end - start, processor, jobs[0].texts};
-}
-
-static taken least(taken a, taken b)
-{
-    return (taken){a.time < b.time ? a.time : b.time, a.processor < b.processor ? a.processor : b.processor, b.texts};
+    return (taken){end - start, processor};
 }
 
 static void time_threads(const gix_mailmap *map, contacts given, long rounds)
 {
-    taken best[3];
+    taken best[3] = {{INT64_MAX, INT64_MAX}, {INT64_MAX, INT64_MAX}, {INT64_MAX, INT64_MAX}};
     for (long round = 0; round < rounds; round++)
         for (int i = 0; i < 3; i++) {
             taken one = run_round(map, given, 1 << i);
-            best[i] = round == 0 ? one : least(best[i], one);
+            best[i] = (taken){least(best[i].time, one.time), least(best[i].processor, one.processor)};
         }
     for (int i = 0; i < 3; i++) {
         double lookups = (double)given.len * (1 << i);
@@ -139,23 +118,22 @@ int main(int count, char **words)
     must(count == 5, "c_lookups gix|libgit2|threads MAP CONTACTS N");
     text map = read_file(words[2]);
     contacts given = contacts_of(read_file(words[3]));
-    long rounds = atol(words[4]);
     bool is_there = strcmp(words[1], "libgit2") == 0;
     gix_mailmap *here = NULL;
     git_mailmap *there = NULL;
     git_libgit2_init();
     must(gix_mailmap_open(&here, map.bytes, map.len) == GIX_MAILMAP_OK, "open");
     must(!is_there || git_mailmap_from_buffer(&there, map.bytes, map.len) == 0, "libgit2 can't read the map");
-    if (strcmp(words[1], "threads") == 0) {
-        time_threads(here, given, rounds);
-        return 0;
-    }
-    taken best = {INT64_MAX, 0, 0};
+    long rounds = atol(words[4]);
+    if (strcmp(words[1], "threads") == 0)
+        return time_threads(here, given, rounds), 0;
+    long long best = INT64_MAX;
+    size_t sum = 0;
     for (long round = 0; round < rounds; round++) {
         long long start = now(CLOCK_MONOTONIC);
-        size_t texts = is_there ? look_up_there(there, given) : look_up_here(here, given);
-        best = least(best, (taken){now(CLOCK_MONOTONIC) - start, 0, texts});
+        sum = is_there ? look_up_there(there, given) : look_up_here(here, given);
+        best = least(best, now(CLOCK_MONOTONIC) - start);
     }
-    printf("bench-answer min_ns=%lld contacts=%zu texts=%zu\n", best.time, given.len, best.texts);
+    printf("bench-answer min_ns=%lld contacts=%zu %s=%zu\n", best, given.len, is_there ? "first_bytes" : "texts", sum);
     return 0;
 }

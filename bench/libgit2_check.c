@@ -12,20 +12,15 @@
 
 static void must_be_done(int status, const char *what)
 {
-    const git_error *error = git_error_last();
-    if (status < 0)
-        fprintf(stderr, "%s: ", error ? error->message : "no reason given");
-    must(status >= 0, what);
+    must(status >= 0, git_error_last() ? git_error_last()->message : what);
 }
 
-static void answer(git_mailmap *map, char *line)
+static void answer(git_mailmap *map, char *line, size_t len)
 {
     const char *name, *email;
-    char *open = strchr(line, '<');
-    char *close = open ? strchr(open, '>') : NULL;
-    if (close) {
-        text old_email = cut(open + 1, close);
-        must_be_done(git_mailmap_resolve(&name, &email, map, cut(line, open).bytes, old_email.bytes), "resolve");
+    contact old;
+    if (is_contact(line, len, &old)) {
+        must_be_done(git_mailmap_resolve(&name, &email, map, old.name.bytes, old.email.bytes), "resolve");
         printf(*name ? "%s <%s>\n" : "%s<%s>\n", name, email);
     } else {
         puts(line);
@@ -37,17 +32,17 @@ int main(int count, char **words)
     git_mailmap *map;
     char *line = NULL;
     size_t room = 0;
-    ssize_t got;
+    ssize_t len;
     must(count == 2, "libgit2_check MAP");
     if (strcmp(words[1], "--version") == 0)
         return puts(LIBGIT2_VERSION) < 0;
     text read = read_file(words[1]);
     git_libgit2_init();
     must_be_done(git_mailmap_from_buffer(&map, read.bytes, read.len), "git_mailmap_from_buffer");
-    while ((got = getline(&line, &room, stdin)) >= 0) {
-        if (got > 0 && line[got - 1] == '\n')
-            line[got - 1] = 0;
-        answer(map, line);
+    while ((len = getline(&line, &room, stdin)) >= 0) {
+        if (len > 0 && line[len - 1] == '\n')
+            line[--len] = 0;
+        answer(map, line, (size_t)len);
     }
     return fflush(stdout) != 0;
 }

@@ -15,6 +15,9 @@ generator has a seed, so the same call writes the same bytes everywhere.
 """
 import itertools
 import random
+from collections import Counter
+from collections.abc import Iterable, Iterator
+from pathlib import Path
 
 FIRST = """Ada Alan Alice Amir Anna Anton Barbara Bjarne Bob Carla Chen Claire Dana David Dmitri Edsger Elena Emil Eva
 Fatima Felix Fran Grace Hana Hugo Ines Ivan Jane Joan Joe John Jorge Julia Karl Katya Ken Lars Leslie Li Linus Luis
@@ -29,155 +32,128 @@ DOMAINS = """example.com example.org example.net mail.example.com corp.example.c
 users.noreply.example.com localhost.localdomain build.example.org kernel.example.org lists.example.net uni.example.edu
 cs.uni.example.edu math.uni.example.edu""".split()
 MOST_CONTACTS = 100_000
+COUNTS = [1_000, MOST_CONTACTS]
+# what maps nothing: a blank line, a comment, or a fault
+OTHER_LINES = ["", "", "# people who moved", "#", "plain words", "Jane <jane@example.com", "<x@example.com>",
+               "A <> <b@example.com>"]
+# an old email, an old name, and the line that has them
+Entry = tuple[str, str, str]
 
 
-def plain(text):
+def plain(text: str) -> str:
     return text.lower().encode("ascii", "ignore").decode()
 
 
-def in_other_letters(rng, text):
+def in_other_letters(rng: random.Random, text: str) -> str:
     """`text` with the case of some ASCII letters changed."""
     return "".join(c.swapcase() if c.isascii() and rng.random() < 0.3 else c for c in text)
 
 
 class Person:
-    def __init__(self, rng, number):
-        self.first = rng.choice(FIRST)
-        self.last = rng.choice(LAST)
-        self.number = number
-        self.domain = rng.choice(DOMAINS)
-        self.form = rng.randrange(4)
+    """A name, an email in one of four forms, and the email that a mailmap may give."""
 
-    def name(self):
-        return f"{self.first} {self.last}"
-
-    def email(self, suffix=""):
+    def __init__(self, rng: random.Random, number: int, suffix: str = "") -> None:
+        self.first, self.last, domain = rng.choice(FIRST), rng.choice(LAST), rng.choice(DOMAINS)
+        self.name = f"{self.first} {self.last}"
         first, last = plain(self.first), plain(self.last)
-        local = [
-            f"{first}.{last}{self.number}",
-            f"{first[:1]}{last}{self.number}",
-            f"{self.number}+{first}",
-            f"{last}-{self.number}",
-        ][self.form]
-        return f"{local}{suffix}@{self.domain}"
-
-    def proper_email(self):
-        return f"{plain(self.first)}@{plain(self.last)}{self.number % 97}.example.com"
+        forms = [f"{first}.{last}{number}", f"{first[:1]}{last}{number}", f"{number}+{first}", f"{last}-{number}"]
+        self.email = f"{forms[rng.randrange(4)]}{suffix}@{domain}"
+        self.proper_email = f"{first}@{last}{number % 97}.example.com"
 
 
-def entry(rng, person, spelling, name):
+def line(rng: random.Random, person: Person, spelling: str, name: str | None) -> str:
     """A line for an old email, and for an old name if there is one. A fifth of the lines without one have two names."""
     if name is not None:
-        proper = f"{person.name()} " if rng.random() < 0.7 else ""
-        return f"{proper}<{person.proper_email()}> {name} <{spelling}>"
+        proper = f"{person.name} " if rng.random() < 0.7 else ""
+        return f"{proper}<{person.proper_email}> {name} <{spelling}>"
     form = rng.random()
     if form < 0.35:
-        return f"{person.name()} <{spelling}>"
+        return f"{person.name} <{spelling}>"
     if form < 0.55:
-        return f"<{person.proper_email()}> <{spelling}>"
-    return f"{person.name()} <{person.proper_email()}> <{spelling}>"
+        return f"<{person.proper_email}> <{spelling}>"
+    return f"{person.name} <{person.proper_email}> <{spelling}>"
 
 
-def dressed(rng, line):
+def dressed(rng: random.Random, line: str) -> str:
     """The line as some people write it: followed by a comment, or with more white space."""
     form = rng.random()
     if form < 0.02:
         return f"{line} # was wrong"
-    if form < 0.05:
-        return f"  {line}\t"
-    return line
+    return f"  {line}\t" if form < 0.05 else line
 
 
-def other_line(rng):
-    """A line that maps nothing: blank, a comment, or a fault."""
-    return rng.choice([
-        "", "", "# people who moved", "#", "plain words", "Jane <jane@example.com", "<x@example.com>",
-        "A <> <b@example.com>",
-    ])
-
-
-def people(rng):
-    """An endless sequence of people."""
+def mixed(rng: random.Random) -> Iterator[Entry]:
+    """An endless sequence of entries, one to three an email."""
     for number in itertools.count(1):
-        yield Person(rng, number)
-
-
-def mixed(rng, lines):
-    """Entries as (old email, old name, line), one to three per email, and their people."""
-    made = []
-    for person in people(rng):
-        email = person.email()
-        for place in range(min(rng.choice([1, 1, 1, 2, 3]), lines - len(made))):
-            spelling = email if rng.random() < 0.9 else in_other_letters(rng, email)
+        person = Person(rng, number)
+        for place in range(rng.choice([1, 1, 1, 2, 3])):
+            spelling = person.email if rng.random() < 0.9 else in_other_letters(rng, person.email)
             name = f"{person.first} {place}" if rng.random() < 0.3 else None
-            made.append((email, name or person.name(), dressed(rng, entry(rng, person, spelling, name))))
-        if len(made) == lines:
-            return made
+            yield person.email, name or person.name, dressed(rng, line(rng, person, spelling, name))
 
 
-def hundred(rng, lines):
-    """Entries with a hundred names per email."""
-    made = []
-    for person in people(rng):
-        email = person.email()
-        for place in range(min(100, lines - len(made))):
+def hundred(rng: random.Random) -> Iterator[Entry]:
+    """An endless sequence of entries, with a hundred names an email."""
+    for number in itertools.count(1):
+        person = Person(rng, number)
+        for place in range(100):
             name = f"{rng.choice(FIRST)} {person.last} {place}"
-            made.append((email, name, dressed(rng, entry(rng, person, email, name))))
-        if len(made) == lines:
-            return made
+            yield person.email, name, dressed(rng, line(rng, person, person.email, name))
 
 
-def written(rng, path, entries, others):
-    """Writes the lines, and among them `others` lines that map nothing."""
-    places = sorted(rng.randrange(len(entries)) for _ in range(others))
-    text, done = [], 0
-    for place in places:
-        text += [line for _, _, line in entries[done:place]]
-        text.append(other_line(rng))
-        done = place
-    text += [line for _, _, line in entries[done:]]
-    path.write_text("\n".join(text) + "\n", encoding="utf-8")
-
-
-def missed(rng, count):
+def missed(rng: random.Random, count: int) -> Iterator[str]:
     """Contacts with emails that no map has."""
     for number in range(count):
-        person = Person(rng, number)
-        yield f"{person.name()} <{person.email('x')}>\n"
+        person = Person(rng, number, "x")
+        yield f"{person.name} <{person.email}>\n"
 
 
-def contacts(rng, folder, stem, entries):
-    chosen = [entries[rng.randrange(len(entries))] for _ in range(min(len(entries), MOST_CONTACTS))]
-    hits = []
-    for email, name, _ in chosen:
-        email = in_other_letters(rng, email) if rng.random() < 0.2 else email
-        hits.append(f"{name} <{email}>\n")
-    misses = list(missed(rng, len(hits)))
-    (folder / f"{stem}.hits").write_text("".join(hits), encoding="utf-8")
-    (folder / f"{stem}.misses").write_text("".join(misses), encoding="utf-8")
-    counted(folder, stem, [line for pair in zip(hits, misses) for line in pair])
+def hit(rng: random.Random, entries: list[Entry], count: int) -> Iterator[str]:
+    """Contacts of entries, some of them in other letters."""
+    for email, name, _ in [entries[rng.randrange(len(entries))] for _ in range(count)]:
+        yield f"{name} <{in_other_letters(rng, email) if rng.random() < 0.2 else email}>\n"
 
 
-def counted(folder, stem, some):
+def write_lines(path: Path, lines: Iterable[str]) -> None:
+    with path.open("w", encoding="utf-8") as file:
+        file.writelines(lines)
+
+
+def mailmap(rng: random.Random, entries: list[Entry], others: int) -> Iterator[str]:
+    """The lines, and among them so many that map nothing."""
+    places = Counter(sorted(rng.randrange(len(entries)) for _ in range(others)))
+    for place, (_, _, line) in enumerate(entries):
+        yield from (f"{rng.choice(OTHER_LINES)}\n" for _ in range(places[place]))
+        yield f"{line}\n"
+
+
+def counted(stem: Path, contacts: list[str]) -> None:
     """Writes a list of contacts of each length."""
-    for count in [1_000, MOST_CONTACTS]:
-        text = "".join(itertools.islice(itertools.cycle(some), count))
-        (folder / f"{stem}.{count}.contacts").write_text(text, encoding="utf-8")
+    for count in COUNTS:
+        path = stem.with_name(f"{stem.name}.{count}.contacts")
+        write_lines(path, itertools.islice(itertools.cycle(contacts), count))
 
 
-def make(folder, sizes):
-    """Writes the maps of these sizes, with their contacts."""
+def written(rng: random.Random, stem: Path, entries: list[Entry], others: int) -> None:
+    """Writes a map with its contacts."""
+    write_lines(stem.with_suffix(".mailmap"), mailmap(rng, entries, others))
+    hits = list(hit(rng, entries, min(len(entries), MOST_CONTACTS)))
+    misses = list(missed(rng, len(hits)))
+    write_lines(stem.with_suffix(".hits"), hits)
+    write_lines(stem.with_suffix(".misses"), misses)
+    counted(stem, [contact for pair in zip(hits, misses) for contact in pair])
+
+
+def make(folder: Path, sizes: Iterable[int]) -> None:
+    """Writes the maps of these sizes."""
     folder.mkdir(parents=True, exist_ok=True)
     (folder / "empty-0.mailmap").write_bytes(b"")
-    counted(folder, "empty-0", list(missed(random.Random(0), MOST_CONTACTS)))
+    counted(folder / "empty-0", list(missed(random.Random(0), MOST_CONTACTS)))
     for lines in sizes:
-        rng = random.Random(lines)
-        others = lines // 64
-        some = mixed(rng, lines - others)
-        many = hundred(rng, lines - others)
-        by_email = sorted(some, key=lambda e: e[0])
+        rng, others = random.Random(lines), lines // 64
+        some, many = (list(itertools.islice(made(rng), lines - others)) for made in (mixed, hundred))
+        by_email = sorted(some, key=lambda entry: entry[0])
         rng.shuffle(some)
         rng.shuffle(many)
         for kind, entries in [("mixed", some), ("sorted", by_email), ("hundred", many)]:
-            written(rng, folder / f"{kind}-{lines}.mailmap", entries, others)
-            contacts(rng, folder, f"{kind}-{lines}", entries)
+            written(rng, folder / f"{kind}-{lines}", entries, others)

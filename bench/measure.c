@@ -15,11 +15,6 @@
 #include <time.h>
 #include <unistd.h>
 
-static long long nanos_of(struct timeval time)
-{
-	return time.tv_sec * 1000000000LL + time.tv_usec * 1000LL;
-}
-
 static void begin(char **words)
 {
 	struct rlimit limit = { strtoul(words[0], NULL, 10), RLIM_INFINITY };
@@ -35,6 +30,7 @@ int main(int count, char **words)
 {
 	struct timespec start, end;
 	struct rusage used;
+	const long long second = 1000000000;
 	int status;
 	if (count < 5)
 		return 2;
@@ -45,9 +41,10 @@ int main(int count, char **words)
 	if (child < 0 || wait4(child, &status, 0, &used) < 0)
 		return 2;
 	clock_gettime(CLOCK_MONOTONIC, &end);
-	long long nanos = (end.tv_sec - start.tv_sec) * 1000000000LL + (end.tv_nsec - start.tv_nsec);
 	int code = WIFEXITED(status) ? WEXITSTATUS(status) : 128 + WTERMSIG(status);
-	long long processor = nanos_of(used.ru_utime) + nanos_of(used.ru_stime);
+	long long nanos = (end.tv_sec - start.tv_sec) * second + end.tv_nsec - start.tv_nsec;
+	long long processor = (used.ru_utime.tv_sec + used.ru_stime.tv_sec) * second;
+	processor += (used.ru_utime.tv_usec + used.ru_stime.tv_usec) * 1000LL;
 	printf("%lld %ld %d %lld\n", nanos, used.ru_maxrss, code, processor);
 	return 0;
 }
