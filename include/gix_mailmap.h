@@ -161,8 +161,8 @@ typedef struct gix_mailmap_place {
     size_t len;
 } gix_mailmap_place;
 
-/* A name and an email that a message has, and a number: how often they come, or of what git reads, its lines. What it doesn't have is
- * empty, or 0. */
+/* A name and an email that a message has, and a number: how often they come, or of what git reads, its lines. What it
+ * doesn't have is empty, or 0. */
 typedef struct gix_mailmap_mention {
     gix_mailmap_place name;
     gix_mailmap_place email;
@@ -382,9 +382,9 @@ gix_mailmap_status gix_mailmap_report_as(const gix_mailmap_named *mailmaps, size
                                          size_t *GIX_MAILMAP_RESTRICT needed)
     GIX_MAILMAP_NONNULL(7) GIX_MAILMAP_MUST_CHECK;
 
-/* Lists the same findings in words, in the same order, and copies their texts, one after another, to `texts`. Nothing in
- * them is escaped. `contacts` may be NULL here, too. `out_len` counts findings, `texts_len` bytes. `needed` is the number
- * of all findings, and `texts_needed` the length of their texts; both are 0 on OUT_OF_MEMORY.
+/* Lists the same findings in words, in the same order, and copies their texts, one after another, to `texts`. Nothing
+ * in them is escaped. `contacts` may be NULL here, too. `out_len` counts findings, `texts_len` bytes. `needed` is the
+ * number of all findings, and `texts_needed` the length of their texts; both are 0 on OUT_OF_MEMORY.
  * OK; TOO_SHORT: `out` or `texts` is too short, and both are as they were; OUT_OF_MEMORY. */
 gix_mailmap_status gix_mailmap_notices(const gix_mailmap_named *mailmaps, size_t count,
                                        const gix_mailmap_named *contacts, gix_mailmap_notice *GIX_MAILMAP_RESTRICT out,

@@ -15,11 +15,11 @@ if [ "$status" != 0 ] && [ "$status" != 77 ]; then
 fi
 if [ $# = 1 ]; then
     model/cases.py "$1"
-    if [ "$status" = 77 ]; then
-        echo 'the cases of tests/original stay as they are'
-        exit 1
+    if [ "$status" = 0 ]; then
+        original/cases.py "$oracle" "$1"
+    else
+        echo 'skipped: the cases of tests/original, since there is no program over the original here'
     fi
-    original/cases.py "$oracle" "$1"
 else
     model/cases.py --check
     [ "$status" = 0 ] || echo 'skipped: the answers of the original, since there is no program over it here'

@@ -5,9 +5,12 @@
     cases.py SEED        makes them with another seed, and stores that
     cases.py --check     writes nothing, and fails if a stored case isn't the one that the stored seed makes
 
-The seed makes up the mailmaps and contacts (buffers.py, people.py), and the answers are the model's.
+The seed makes up the mailmaps and contacts (buffers.py, people.py), and the answers are the model's. For two files of
+tests/suggest another program, which isn't here, made up mailmaps, contacts and answers: a second opinion. So in these
+only words of the answers may change.
 """
 import json
+import re
 import sys
 from collections.abc import Callable
 from pathlib import Path
@@ -20,6 +23,7 @@ from findings import prune, verify
 from mailmap import lines
 from people import PeopleWriter
 from shortlog import shortlog
+from shown import shown_text
 from suggest import suggest
 
 TESTS = Path(__file__).resolve().parent.parent
@@ -78,6 +82,49 @@ def suggested_case(writer, count):
     }
 
 
+# ---- the cases of another program
+
+OTHERS = "suggest/cases.jsonl", "suggest/small.jsonl"
+FOUND = re.compile(rb"^c:(\d+): (\w+): (.*) \[([a-z-]+)\]$", re.MULTILINE)
+WORD = re.compile(rb"[^\s<>()]+")
+
+
+def answered(case):
+    """A case with the model's answers."""
+    files, contacts = [bytes.fromhex(file) for file in case["files"]], bytes.fromhex(case["contacts"])
+    _, printed = verify_contacts(files, names_of(files), contacts, b"c")
+    found = [[int(number), level.decode(), kind.decode(), words.hex()]
+             for number, level, words, kind in FOUND.findall(printed)]
+    return {**case, "suggest": suggest(files, contacts).hex(), "findings": found}
+
+
+def facts(case):
+    """What the answers say, in whatever words: entries, levels and kinds, and of comments and messages the numbers, and
+    the words that entries of the mailmaps or contacts have, too, or that were cut.
+    """
+    *files, contacts = (bytes.fromhex(text) for text in (*case["files"], case["contacts"]))
+    entries = [line for file in files for line in lines(file) if not line.startswith(b"#")]
+    words = WORD.findall(b" ".join([*entries, contacts]))
+    given = {*words, *map(shown_text, words)}
+
+    def kept(text):
+        return [word for word in WORD.findall(text) if word in given or re.search(rb"\d|\.\.$", word)]
+
+    suggested = lines(bytes.fromhex(case["suggest"]))
+    found = [(line, level, kind, kept(bytes.fromhex(words))) for line, level, kind, words in case["findings"]]
+    return [kept(line) if line.startswith(b"# ") else line for line in suggested], found
+
+
+def reworded(file):
+    """The lines of a file with the model's answers, if these differ from the stored ones only in words."""
+    for number, line in enumerate(lines((TESTS / file).read_bytes()), 1):
+        case = json.loads(line)
+        wanted = answered(case)
+        if facts(wanted) != facts(case):
+            sys.exit(f"model: tests/{file}:{number} has another answer, not only other words")
+        yield json.dumps(wanted).encode("ascii") + b"\n"
+
+
 # ---- the files
 
 class Made(NamedTuple):
@@ -108,14 +155,18 @@ def made(file, seed):
             yield json.dumps(how.case(writer, size)).encode("ascii") + b"\n"
 
 
+def wanted_lines(file, seed):
+    return list(made(file, seed) if file in FILES else reworded(file))
+
+
 def check(seed):
-    """The number of stored cases, if all of them are those that the seed makes."""
+    """The number of stored cases, if all of them are those that the seed makes, or that have the model's answers."""
     total = 0
-    for file in FILES:
-        stored, wanted = lines((TESTS / file).read_bytes()), list(made(file, seed))
+    for file in *FILES, *OTHERS:
+        stored, wanted = lines((TESTS / file).read_bytes()), wanted_lines(file, seed)
         for number in range(max(len(stored), len(wanted))):
             if stored[number:number + 1] != wanted[number:number + 1]:
-                sys.exit(f"model: tests/{file}:{number + 1} is not the case that seed {seed} makes")
+                sys.exit(f"model: tests/{file}:{number + 1} is not the case that `make cases SEED={seed}` makes")
         total += len(wanted)
     return total
 
@@ -126,8 +177,8 @@ def main(arguments):
         print(f"model: {check(seed)} stored cases are those of seed {seed}")
     elif not arguments or len(arguments) == 1 and arguments[0].isdecimal():
         seed = int(arguments[0] if arguments else SEED.read_text())
-        for file in FILES:
-            (TESTS / file).write_bytes(b"".join(made(file, seed)))
+        for file, cases in [(file, wanted_lines(file, seed)) for file in (*FILES, *OTHERS)]:
+            (TESTS / file).write_bytes(b"".join(cases))
         SEED.write_text(f"{seed}\n")
         print(f"model: made the cases of seed {seed}")
     else:

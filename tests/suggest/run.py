@@ -6,8 +6,8 @@
 A line of cases.jsonl and of small.jsonl is a case: its mailmaps, which become the files m1, m2 and so on, its contacts,
 which become the file c, what `--suggest` prints, and the findings about contacts that `--contacts` prints. Texts are in
 hex. They come from a model that tries each question on whole lists of entries. tests/model has another such model,
-written from the definitions in specs, which has to give the same. `make cases` makes made.jsonl with it, where a case
-has the status and the output of `--contacts`, and it answers further cases here, with stranger texts.
+written from the definitions in specs, which has to give the same (tests/cases.sh). `make cases` makes made.jsonl with
+it, where a case has the status and the output of `--contacts`, and it answers further cases here, with stranger texts.
 
 What is read in some names and emails (spelled.py) is written out. Large histories (large.py) have lines that follow
 from how they are made. If git is installed, suggestions are made for a repository of 3,000 commits, and git has
@@ -71,7 +71,6 @@ def cases_of(file):
 def of_other_model(program):
     cases = [*cases_of("cases.jsonl"), *cases_of("small.jsonl")]
     for number, (files, contacts, printed, case) in enumerate(cases, 1):
-        wants(f"case {number} of the other model", (0, suggest(files, contacts), b""), 0, printed)
         wants_suggestions(program, f"case {number}", files, contacts, printed)
         wants_findings(program, f"findings of case {number}", files, contacts, case["findings"])
     return len(cases)

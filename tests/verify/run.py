@@ -32,6 +32,7 @@ from runs import run, wants
 from formats import annotations, fields
 from hostile import CURE, LIMIT, REFUSED, hostile
 from in_place import in_place, in_place_case
+from kinds import in_manual, kinds
 
 VERSION = (Path(__file__).resolve().parents[2] / "VERSION").read_bytes().strip()
 
@@ -190,9 +191,7 @@ def file_names(program):
 HELPS = {
     b"unknown level": b"levels: error warning note\n",
     b"unknown format": b"formats: gcc json github\n",
-    b"unknown kind": b"kinds: no-email unclosed-email empty-email nothing-to-map unclosed-second-email byte-order-mark "
-                     b"ignored-text comment-in-line git-reads no-effect itself-mapped unneeded no-contact same-email "
-                     b"shared-email same-name similar-name git-answers\n",
+    b"unknown kind": b"kinds: %b\n" % " ".join(in_manual()).encode(),
 }
 USAGE_LINE = (
     b"usage: mailmap_verify [--prune [--in-place] | --explain | --contacts CONTACTS | --suggest CONTACTS]\n"
@@ -522,6 +521,7 @@ def main():
         hostile_beside(program)
         file_names(program)
         options(program)
+        kinds(program)
         mark_count = marks(program)
         alike_count = look_alikes(program)
         filters(program)
