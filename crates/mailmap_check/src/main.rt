@@ -41,15 +41,27 @@ fn main(rt: HostRuntime) -> ExitCode {
 
 fn start(rt: &HostRuntime) -> Result<(), Failure> {
     let arguments = arguments(rt, rt.alloc())?;
-    if let [_, first, ..] = arguments.as_slice() {
-        if first.as_slice() == b"-h".as_slice() || first.as_slice() == b"--help".as_slice() {
-            return write_all(&mut rt.stdout(), USAGE.as_bytes());
-        }
-        if first.as_slice() == b"--version".as_slice() {
-            return println!(rt; "mailmap_check {VERSION}").map_err(|_| Failure::Output);
-        }
+    let first = arguments
+        .get(1)
+        .map_or(b"".as_slice(), |first| first.as_slice());
+    match first {
+        b"-h" | b"--help" => write_all(&mut rt.stdout(), USAGE.as_bytes()),
+        b"--version" => print_version(rt),
+        _ => run_task(rt, arguments.as_slice()),
     }
-    let task = task_of(arguments.as_slice());
+}
+
+fn print_version(rt: &HostRuntime) -> Result<(), Failure> {
+    println!(rt; "mailmap_check {VERSION}").map_err(|_| Failure::Output)
+}
+
+fn run_task(rt: &HostRuntime, arguments: &[Vec<u8>]) -> Result<(), Failure> {
     let system = System { files: rt };
-    perform(&system, rt.alloc(), task, &mut rt.stdin(), &mut rt.stdout())
+    perform(
+        &system,
+        rt.alloc(),
+        task_of(arguments),
+        &mut rt.stdin(),
+        &mut rt.stdout(),
+    )
 }

@@ -1,7 +1,7 @@
 -- The rows of a table, what summaries decide, the loop of one pass, and passes until one drops nothing.
 use Rattle.std.proofs.lemmas.Grind.{common_steps, get_or-set_at}
-use Rattle.std.proofs.Common.{rules, ◌≡◌, ◌<◌, ◌+◌, ◌≢◌, ℕ, Bool, true, false, cond, List, [], ◌∷◌, ◌++◌, filter, take, drop, length, get_or, set, append-nil, inl, inr, refl, sym, ap, subst, ◌∙◌, arith, true≢false, ◌≤◌}
-use Rattle.std.specs.Prelude.{Contains, All}
+use Rattle.std.proofs.Common.{rules, ◌≡◌, ◌<◌, ◌+◌, ◌≢◌, ℕ, Bool, true, false, not, cond, List, [], ◌∷◌, ◌++◌, filter, take, drop, length, get_or, set, append-nil, inl, inr, refl, sym, ap, subst, ◌∙◌, arith, true≢false, ◌≤◌}
+use Rattle.std.specs.Prelude.{Contains, All, vec_len}
 use Rattle.std.specs.List.{AllByRecursion}
 use Rattle.std.specs.List.Sorted.{IsStrictlySortedBy}
 use Rattle.std.proofs.lemmas.Bool.{eqb-true, eqb-false}
@@ -13,7 +13,7 @@ use Rattle.mailmap_entries.specs.Semantics.{Key, is_accepted, key, key_cmp}
 use Rattle.mailmap_entries.proofs.Parts.{all_append, all_weaker, first-append, last-append, all_mapped}
 use Rattle.mailmap_redundancy.specs.Origins.{entries_of_email}
 use Rattle.mailmap_redundancy.specs.Redundancy.{LocatedMapping, entries_of_key, IsPass, IsRedundant, goes, stays, entries, AreEffective, settled, again}
-use Rattle.mailmap_redundancy.specs.Summaries.{IsKnown, IsNumber, IsNumbered, IsTableOf, IsWith, email_key, joined_summary, located_mapping_of, located_mappings, summary_for, summary_of_one, IsTable, numbered_mapping, later_of, later_of_each}
+use Rattle.mailmap_redundancy.specs.Summaries.{IsTried, is_redundant, IsKnown, IsNumber, IsNumbered, IsTableOf, IsWith, email_key, joined_summary, located_mapping_of, located_mappings, summary_for, summary_of_one, IsTable, numbered_mapping, later_of, later_of_each}
 use Rattle.mailmap_redundancy.specs.declared.keys.NumberedEntry.{NumberedEntry}
 use Rattle.mailmap_redundancy.proofs.Numbered.{unequal_emails, unequal_keys, same_number}
 use Rattle.mailmap_redundancy.proofs.Redundant.{is_redundant_between, own_email, own_key, summaries_decide}
@@ -75,6 +75,19 @@ pub row_changed : {X Y Z : Type 0} (keys : List Key) (key_of : X → Key) (view 
     → IsTableOf keys key_of f view rows → IsNumber keys (key_of x) i
     → view z ≡ g x → ((y : X) → y ≢ x → g y ≡ f y) → IsTableOf keys key_of g view (set rows i z)
 row_changed {X} keys key_of view f g rows x i z up one table is new others y j n = search (rules, eqb-false, eqb-true, get_or-set_at, get_or-set_other, length-set, same_number, same_Some)
+
+-- the numbers of entry i are within a table
+module _ (keys : List Key) (all : List NumberedEntry) (numbered : All (IsNumbered keys) all) (i : ℕ) (x : NumberedEntry)
+    (within : i < length all) (is : x ≡ get_or all i x) where
+  pub numbered_at : IsNumbered keys x
+  numbered_at = subst (IsNumbered keys) (sym is) (numbered i x within)
+
+  module _ (xs : List LocatedMapping) (t : Table) (table : IsTable keys xs t) where
+    pub key_within : x.key_number < vec_len t.key_summaries
+    key_within = omega (arith, t.key_summaries.ok.0, (table.of_keys (key (numbered_mapping x)) x.key_number numbered_at.own).0)
+
+    pub email_within : x.email_number < vec_len t.email_summaries
+    email_within = omega (arith, t.email_summaries.ok.0, (table.of_emails (key (numbered_mapping x)).0 x.email_number numbered_at.of_email).0)
 
 -- ---- appending an entry, and prepending one
 
@@ -140,7 +153,7 @@ module _ (keys : List Key) (all : List NumberedEntry) (numbered : All (IsNumbere
   ends = same_ends left (later_of_each rest) later (later_of (located_mapping_of x) (summary_for rest (key (numbered_mapping x))))
       (sym popped ∙ so.asked ∙ ap later_of_each next)
 
-  abbrev pub test : Bool
+  abbrev test : Bool
   test = is_redundant_between (summary_for (located_mappings kept) (key (numbered_mapping x))) (located_mapping_of x) (summary_for rest (key (numbered_mapping x)))
 
   decides : Decides test (IsRedundant (entries (located_mappings kept)) (numbered_mapping x) (entries rest))
@@ -152,15 +165,16 @@ module _ (keys : List Key) (all : List NumberedEntry) (numbered : All (IsNumbere
       ))
       (summaries_decide (located_mappings kept) (located_mapping_of x) rest n.accepted)
 
-  pub going : test ≡ true → IsPassing keys all (i + 1) left before kept
-  going redundant = record {
+  going : (after : Table) → test ≡ true → IsTable keys (located_mappings kept) after
+      → IsPassing keys all (i + 1) left after kept
+  going after redundant table = record {
     asked = ends.0;
-    table = so.table;
+    table = table;
     numbered = so.numbered;
     left = λ out p. so.left out (rw next (goes (located_mappings kept) (located_mapping_of x) rest out (decides.0 redundant) p));
   }
 
-  pub staying : (after : Table) (kept' : List NumberedEntry) → test ≡ false → kept' ≡ kept ++ x ∷ []
+  staying : (after : Table) (kept' : List NumberedEntry) → test ≡ false → kept' ≡ kept ++ x ∷ []
       → IsTable keys (located_mappings kept ++ located_mapping_of x ∷ []) after → IsPassing keys all (i + 1) left after kept'
   staying after kept' works pushed table =
       let grown : located_mappings kept' ≡ located_mappings kept ++ located_mapping_of x ∷ [] =
@@ -172,6 +186,20 @@ module _ (keys : List Key) (all : List NumberedEntry) (numbered : All (IsNumbere
         left = λ out p. so.left out (rw next (stays (located_mappings kept) (located_mapping_of x) rest out
             (λ redundant. true≢false (sym (decides.1 redundant) ∙ works)) (rw (← grown) p)));
       }
+
+  -- the state after entry i
+  pub tried : (appended : Bool) (after : Table) (kept' : List NumberedEntry) → kept' ≡ cond appended (kept ++ x ∷ []) kept
+      → IsTried keys (located_mappings kept) (located_mapping_of x) later appended after
+      → IsPassing keys all (i + 1) left after kept'
+  tried appended after kept' is t =
+      let same = ap (is_redundant (summary_for (located_mappings kept) (key (numbered_mapping x))) (located_mapping_of x)) (sym ends.1) in
+      by appended is t.table (same ∙ t.tested)
+    where
+      by : (b : Bool) → kept' ≡ cond b (kept ++ x ∷ []) kept
+          → IsTable keys (cond b (located_mappings kept ++ located_mapping_of x ∷ []) (located_mappings kept)) after
+          → test ≡ not b → IsPassing keys all (i + 1) left after kept'
+      by true is table works = staying after kept' works is table
+      by false is table redundant = rw is (going after redundant table)
 
 -- ---- repeated passes
 

@@ -1,5 +1,5 @@
 -- Summaries of the entries for a key and an email, the numbers of keys, and tables with a summary for each number.
-use Rattle.std.specs.Prelude.{nat_eq, ◌≡◌, ◌<◌, ◌⊎◌, ◌&&◌, ◌||◌, ◌-◌, Bool, false, if◌then◌else◌, true, List, [], ◌∷◌, ◌++◌, ℕ, Option, Some, None, Contains, is_some, map, length, unwrap_or}
+use Rattle.std.specs.Prelude.{nat_eq, ◌≡◌, ◌<◌, ◌⊎◌, ◌&&◌, ◌||◌, ◌-◌, Bool, false, if◌then◌else◌, true, List, [], ◌∷◌, ◌++◌, ℕ, Option, Some, None, Contains, is_some, map, length, not, unwrap_or}
 use Rattle.std.specs.Borrow.{Bor}
 use Rattle.std.specs.Option.{option_and_then, option_copied, option_map, option_or}
 use Rattle.std.specs.List.{slice_get, slice_index_or, AllByRecursion}
@@ -145,14 +145,16 @@ abbrev pub keeps_spellings : Later → Summary → Bool
 keeps_spellings later before = (is_some before.of_key.first || later.same_old_name)
     && (is_some before.spelling || later.same_old_email)
 
+-- the new fields are the same with x and without it
+abbrev pub changes_no_new_field : Summary → LocatedMapping → Later → Bool
+changes_no_new_field before x later =
+    let is_named = is_some (key x.entry).1 in
+    keeps_new_fields later (value_from is_named (joined_summary before (summary_of_one x))) (value_from is_named before)
+
 -- without x, the entries before and after it still have its key, with the same value
 abbrev pub is_redundant : Summary → LocatedMapping → Later → Bool
-is_redundant before x later =
-    let is_named = is_some (key x.entry).1 in
-    (later.has_key || is_some before.of_key.last)
-    && (keeps_new_fields later (value_from is_named (joined_summary before (summary_of_one x)))
-    (value_from is_named before)
-    && keeps_spellings later before)
+is_redundant before x later = (later.has_key || is_some before.of_key.last)
+    && (changes_no_new_field before x later && keeps_spellings later before)
 
 -- what matters of those after each entry of a list; the last entry's comes first
 abbrev pub later_of_each : List LocatedMapping → List Later
@@ -212,6 +214,12 @@ pub record IsTable (keys : List Key) (xs : List LocatedMapping) (t : Table) : Ty
   pub of_keys : IsTableOf keys (λ k. k) (λ k. key_summary (entries_of_key xs k)) key_summary_of t.key_summaries.items
   pub of_emails : IsTableOf keys email_key (λ email. first (entries_of_email xs email)) first_of t.email_summaries.items
   pub known : AllByRecursion (IsKnown keys) xs
+
+-- x is appended to the range xs of a table unless it is redundant
+pub record IsTried (keys : List Key) (xs : List LocatedMapping) (x : LocatedMapping) (later : Later) (appended : Bool)
+    (t : Table) : Type 0 where
+  pub tested : is_redundant (summary_for xs (key x.entry)) x later ≡ not appended
+  pub table : IsTable keys (if appended then xs ++ x ∷ [] else xs) t
 
 -- the second list is the first with x at its end or at its start
 abbrev pub IsWith : List LocatedMapping → LocatedMapping → List LocatedMapping → Type 0

@@ -1,9 +1,9 @@
 //! The passes that drop redundant entries, until one of them drops none.
-ghost use Rattle.std.specs.Prelude.{◌≡◌, All, [], IfOk, map};
+ghost use Rattle.std.specs.Prelude.{◌≡◌, ◌<◌, All, [], IfOk, List, map, vec_len};
 ghost use Rattle.std.specs.List.Sorted.{IsStrictlySortedBy};
-ghost use Rattle.mailmap_entries.specs.Semantics.{key_cmp};
-ghost use Rattle.mailmap_redundancy.specs.Redundancy.{IsPass, AreEffective, located_of};
-ghost use Rattle.mailmap_redundancy.specs.Summaries.{IsNumbered, is_redundant, keeps_new_fields, keeps_spellings, later_of, later_of_each, located_mappings, summary_of, value_of};
+ghost use Rattle.mailmap_entries.specs.Semantics.{Key as SpecKey, key_cmp};
+ghost use Rattle.mailmap_redundancy.specs.Redundancy.{IsPass, AreEffective, LocatedMapping, located_of};
+ghost use Rattle.mailmap_redundancy.specs.Summaries.{IsNumbered, IsTable, IsTried, changes_no_new_field, is_redundant, keeps_new_fields, keeps_spellings, later_of, later_of_each, located_mapping_of, located_mappings, summary_of, value_of};
 
 use crate::keys::{Key, NumberedEntry};
 use crate::located::LocatedEntry;
@@ -51,12 +51,29 @@ pub(crate) fn drop_redundant_once<'p, 'a>(
         let Some(later) = later_ones.pop() else {
             unreachable!()
         };
-        if !is_redundant(table.summary(x), x.located, later) {
-            table.append(x);
+        if append_unless_redundant(&mut table, x, later) {
             kept.push(*x)?;
         }
     }
     Ok(kept)
+}
+
+// Extends the table's range by an entry, unless that is redundant. Returns whether it did.
+fn append_unless_redundant<'p, 'a>(
+    table: &mut Table<'p, 'a>,
+    x: &NumberedEntry<'p, 'a>,
+    later: Later,
+) -> bool
+    requires key { x.now.key_number < vec_len table.old.key_summaries }
+    requires email { x.now.email_number < vec_len table.old.email_summaries }
+    ensures { (keys : List SpecKey) (xs : List LocatedMapping) → IsStrictlySortedBy key_cmp keys
+        → IsNumbered keys x.now → IsTable keys xs table.old → IsTried keys xs (located_mapping_of x.now) later result table.new }
+{
+    if is_redundant(table.summary(x), x.located, later) {
+        return false;
+    }
+    table.append(x);
+    true
 }
 
 // What the redundancy of an entry depends on in the entries after it. A summary of these would take sixteen times the
@@ -137,10 +154,17 @@ fn each_later(
 fn is_redundant(before: Summary<'_, '_>, located: &LocatedEntry<'_>, later: Later) -> bool
     ensures { result ≡ is_redundant (summary_of before.entry) (located_of located.now) later }
 {
+    (later.has_key || before.of_key.last.is_some())
+        && changes_no_new_field(before, located, later)
+        && later.keeps_spellings(before)
+}
+
+// Whether the new fields are the same with and without an entry between those kept before it and those after it.
+fn changes_no_new_field(before: Summary<'_, '_>, located: &LocatedEntry<'_>, later: Later) -> bool
+    ensures { result ≡ changes_no_new_field (summary_of before.entry) (located_of located.now) later }
+{
     let is_named = located.entry.old_name().is_some();
     let without = before.value(is_named);
     let with = before.then(Summary::of(located)).value(is_named);
-    (later.has_key || before.of_key.last.is_some())
-        && later.keeps_new_fields(with, without)
-        && later.keeps_spellings(before)
+    later.keeps_new_fields(with, without)
 }

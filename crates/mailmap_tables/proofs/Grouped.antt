@@ -11,7 +11,7 @@ use Rattle.std.specs.Option.{option_cmp}
 use Rattle.std.specs.Ordering.{eq_by_cmp, ordering_then, ordering_reverse}
 use Rattle.std.proofs.lemmas.Bool.{or_right, cases_lt}
 use Rattle.std.proofs.lemmas.Grind.{common_steps, flat_map-append}
-use Rattle.std.proofs.lemmas.List.{drop_more, map-append}
+use Rattle.std.proofs.lemmas.List.{drop_more}
 use Rattle.std.proofs.lemmas.List.Elements.{All-from_recursion, filter-append, filter_agree, recursion_from_All}
 use Rattle.std.proofs.lemmas.Map.Keys.{sorted_head, sorted_tail}
 use Rattle.mailmap_entries.specs.Entries.{Mapping}
@@ -71,9 +71,6 @@ listing_all P (g ∷ gs) a = all_append P (group_entries g) (listing gs) a.0 (li
 -- all entries of groups are accepted
 pub groups_accepted : (gs : List EmailGroup) → AllByRecursion (λ e. is_accepted e ≡ true) (listing gs)
 groups_accepted gs = listing_all _ gs (every entries_accepted gs)
-
--- accepted entries after those of groups are accepted
-pub ruleset listed_accepted = (common_steps, all_append, groups_accepted, map-append)
 
 pub listing-append : (xs ys : List EmailGroup) → listing (xs ++ ys) ≡ listing xs ++ listing ys
 listing-append xs ys = flat_map-append group_entries xs ys

@@ -1,6 +1,6 @@
 -- What tables represent when the pool grows. The names of what still holds then end in `_on`.
 use Rattle.std.proofs.lemmas.Grind.{common_steps}
-use Rattle.std.proofs.Common.{◌≡◌, ◌≤◌, ℕ, List, ◌++◌, map, length, Option, option_map, length-append}
+use Rattle.std.proofs.Common.{◌≡◌, ◌≤◌, ℕ, List, ◌++◌, append_assoc, map, length, Option, option_map, length-append}
 use Rattle.std.proofs.Common.{sym, ap, subst, ◌∙◌, arith}
 use Rattle.std.specs.Option.{ForSome}
 use Rattle.std.specs.List.{AllByRecursion}
@@ -8,7 +8,7 @@ use Rattle.std.specs.List.Sorted.{IsStrictlySortedBy}
 use Rattle.mailmap_entries.specs.Folding.{Text, text_cmp}
 use Rattle.mailmap_entries.proofs.Parts.{all_weaker, map_alike}
 use Rattle.mailmap_tables.specs.Groups.{Contents, EmailGroup, folded_name}
-use Rattle.mailmap_tables.specs.Pool.{EmailInPool, Extends, LiesIn, NameInPool, Row, TextsInPool, contents, fields_of}
+use Rattle.mailmap_tables.specs.Pool.{EmailInPool, Extends, IsGrown, LiesIn, NameInPool, Row, TextsInPool, contents, fields_of}
 use Rattle.mailmap_tables.specs.Pool.{stored_name, prefix_of, row_group, spelled}
 use Rattle.mailmap_tables.specs.Rows.{AreRows}
 use Rattle.mailmap_tables.specs.RowTexts.{old_span}
@@ -71,3 +71,9 @@ module _ (a b : Text) (to : Extends a b) where
         → contents b rows ≡ record t { pool = t.pool ++ to.0 }
     contents_on t is = (λ i. record { pool = to.1 i; groups = groups_same i })
         ∙ ap (λ (v : Contents). record v { pool = v.pool ++ to.0 }) is
+
+pub grown_through : (a b c : Contents) → IsGrown a b → IsGrown b c → IsGrown a c
+grown_through a b c p q = (
+  p.0 ++ q.0,
+  q.1 ∙ ap (λ (v : Contents). record v { pool = v.pool ++ q.0 }) p.1 ∙ (λ i. record a { pool = append_assoc a.pool p.0 q.0 i }),
+)

@@ -1,21 +1,24 @@
 -- The texts of a row as spans of the pool.
 use Rattle.std.proofs.Common.{◌≡◌, ◌≤◌, ◌<◌, ◌+◌, ℕ, ◌++◌, length, Option, Some, None, option_map, unwrap_or, ap}
-use Rattle.std.proofs.Common.{◌∙◌, arith, [], append_assoc, length-append}
+use Rattle.std.proofs.Common.{◌∙◌, ◌∷◌, arith, is_some, [], append_assoc, length-append}
 use Rattle.std.proofs.Math.Seq.{drop-append_seam}
 use Rattle.std.specs.Option.{ForSome}
 use Rattle.std.proofs.lemmas.Grind.{common_steps}
 use Rattle.std.proofs.lemmas.Bool.Decides.{nat_tests}
 use Rattle.std.proofs.lemmas.Option.{same_Some}
 use Rattle.mailmap_entries.specs.Folding.{Text}
-use Rattle.mailmap_entries.specs.Semantics.{Fields}
-use Rattle.mailmap_tables.specs.Pool.{Extends, HasTexts, IsStored, IsWithin, TextsInPool, stored_name, spelled}
-use Rattle.mailmap_tables.specs.Pool.{text_of}
-use Rattle.mailmap_tables.specs.RowTexts.{byte_count, email_span, name_span, span_of}
+use Rattle.mailmap_entries.specs.Building.{IsPaired}
+use Rattle.mailmap_entries.specs.Entries.{Mapping}
+use Rattle.mailmap_entries.specs.Semantics.{Fields, new_fields, no_fields}
+use Rattle.mailmap_tables.specs.Pool.{Extends, HasTexts, IsStored, IsWithin, NameInPool, TextsInPool, group_of}
+use Rattle.mailmap_tables.specs.Pool.{stored_name, spelled, text_of}
+use Rattle.mailmap_tables.specs.Put.{email_given, with_old_email}
+use Rattle.mailmap_tables.specs.RowTexts.{byte_count, email_span, name_span, old_span, span_of}
 use Rattle.mailmap_tables.specs.declared.texts.TheConstants.{NO_TEXT}
 use Rattle.mailmap_tables.specs.declared.texts.Source.{Source}
 use Rattle.mailmap_tables.specs.declared.texts.Source.TheVariants.{Given, Pool}
 use Rattle.mailmap_tables.specs.declared.texts.RowTexts.{RowTexts}
-use Rattle.mailmap_tables.proofs.Pooled.{grown, options_on, spelled_on}
+use Rattle.mailmap_tables.proofs.Pooled.{fields_on, grown, options_on, spelled_on}
 
 -- ---- a length
 
@@ -97,3 +100,23 @@ row_stored pool one two three old name email t start then last its_old its_name 
 pub name_of_row : (pool old : Text) (fields : Fields) (t : RowTexts) → HasTexts pool old fields t → stored_name pool t
     ≡ record { old_name = old; new_name = fields.name; new_email = unwrap_or fields.email [] }
 name_of_row pool old fields t row = grind arith
+
+-- ---- the rows of a new email
+
+module _ (pool old : Text) (m : Mapping) (t : RowTexts) (row : HasTexts pool old (new_fields m) t) where
+  -- an entry with an old name has a new email
+  pub name_in_pool : IsPaired m → (name : Text) → m.old_name ≡ Some name → NameInPool (length pool) t
+  name_in_pool paired name is =
+      let email = ap (λ (f : Fields). f.email) row.fields_are in
+      record { texts = row.lies; new_email = grind (arith, email, paired (ap is_some is)) }
+
+  pub unnamed_made : group_of pool t [] ≡ email_given (with_old_email old m) None
+  unnamed_made i = record { old_email = row.old_is i; unnamed = row.fields_are i; names = [] }
+
+  pub named_made : (before email : Text) (e : RowTexts) → HasTexts before email no_fields e → Extends before pool
+      → group_of pool e (t ∷ []) ≡ email_given (with_old_email email m) (Some old)
+  named_made before email e its to i = record {
+    old_email = (spelled_on before pool to (old_span e) its.lies.old ∙ its.old_is) i;
+    unnamed = (fields_on before pool to e its.lies ∙ its.fields_are) i;
+    names = name_of_row pool old (new_fields m) t row i ∷ [];
+  }

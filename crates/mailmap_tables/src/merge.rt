@@ -118,7 +118,6 @@ fn has_new_name_or_email(entry: &Entry) -> bool
 }
 
 // New tables with these entries after those of the existing ones.
-#[tactic(auto, using(crate::proofs::Grouped::listed_accepted))]
 fn joined<'a>(
     alloc: Global,
     existing_tables: &'a Tables,

@@ -2,6 +2,17 @@ use Rattle.std.proofs.Common.{◌∙◌}
 use Rattle.mailmap_tables.proofs.RowsOfPool.{extends_through, row_stored, some_within_on, texts_on}
 use Rattle.mailmap_tables.proofs.texts.append_row.Goals as goal
 
+pub returns-in_err-new_name_len-clause-grown : goal.returns-in_err-new_name_len-clause-grown
+returns-in_err-new_name_len-clause-grown c = extends_through _ _ _ c.append.ensures.grown c.append_optional.ensures.grown
+
+pub returns-in_err-new_email_len-clause-grown : goal.returns-in_err-new_email_len-clause-grown
+returns-in_err-new_email_len-clause-grown c = extends_through _ _ _
+    (extends_through _ _ _ c.append.ensures.grown c.append_optional.ensures.grown) c.append_optional-2.ensures.grown
+
+pub returns-clause-grown : goal.returns-clause-grown
+returns-clause-grown c = extends_through _ _ _
+    (extends_through _ _ _ c.append.ensures.grown c.append_optional.ensures.grown) c.append_optional-2.ensures.grown
+
 pub append_optional-requires : goal.append_optional-requires
 append_optional-requires c = some_within_on _ _ c.append.ensures.grown _ c.requires.new_name
 

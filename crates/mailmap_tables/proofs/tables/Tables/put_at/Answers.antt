@@ -7,7 +7,7 @@ use Rattle.mailmap_entries.specs.Semantics.{new_fields}
 use Rattle.mailmap_tables.specs.Pool.{fields_of, group_of, stored_name}
 use Rattle.mailmap_tables.specs.Put.{name_given, spelled_name, with_old_email}
 use Rattle.mailmap_tables.proofs.PutEntry.{fields_put, given_or, name_put, entry_paired, names_ascend, names_ascend_with}
-use Rattle.mailmap_tables.proofs.RowsOfPool.{name_of_row}
+use Rattle.mailmap_tables.proofs.RowsOfPool.{name_in_pool, name_of_row}
 use Rattle.mailmap_tables.proofs.tables.Tables.put_at.Goals as goal
 
 pub returns-in_default-clause-ok : goal.returns-in_default-clause-ok
@@ -65,3 +65,21 @@ returns-clause-ok c =
     on_ok_weaker c.place_name.result (λ d. rw (d g (rw c.append_entry.ensures.grown.1 read), row, c.append_entry.ensures.grown.1)
     (name_put m c.requires.groups c.args.index c.requires.found g read name named
     (entry_paired c.args.entry.now) c.place_of_name-place.result place)) c.place_name.ensures.ok
+
+pub append_row-requires-clause-new_name : goal.append_row-requires-clause-new_name
+append_row-requires-clause-new_name c = c.given_or.ensures.within _ (rw c.fields-new_name.ensures.new_name
+    (rw c.view-view.ensures at c.email.ensures.in_pool.email_lies.new_name))
+
+pub append_row-requires-clause-new_email : goal.append_row-requires-clause-new_email
+append_row-requires-clause-new_email c = c.given_or-in_default.ensures.within _ (rw c.fields-new_name.ensures.new_email
+    (rw c.view-view.ensures at c.email.ensures.in_pool.email_lies.new_email))
+
+pub replace_texts-requires-clause-in_pool : goal.replace_texts-requires-clause-in_pool
+replace_texts-requires-clause-in_pool c = c.in_ok-row.ensures.row.lies
+
+pub place_of_name-place-requires-clause-in_pool : goal.place_of_name-place-requires-clause-in_pool
+place_of_name-place-requires-clause-in_pool c = c.email.ensures.in_pool.names_lie
+
+pub place_name-requires-clause-in_pool : goal.place_name-requires-clause-in_pool
+place_name-requires-clause-in_pool c = name_in_pool _ _ (mapping_of c.args.entry.now) _ c.in_ok-row-2.ensures.row
+    (entry_paired c.args.entry.now) _ (sym c.in-Some.ensures)
