@@ -348,8 +348,9 @@ gix_mailmap_status gix_mailmap_verify(const char *mailmap, size_t mailmap_len,
  * `NAME:3: warning: no effect: OTHER:7 says the same [no-effect]`. The mailmaps are read one after another, as if they
  * were one: a line may have no effect beside a line of another mailmap. Control bytes are shown as `\x1b`, C1 control
  * characters and those of the general categories Cf, Zl and Zp as `\u202e` or `\U000e0001`, and `##[`, which GitHub
- * takes for a command, as `##\x5b`. Names, emails and ignored texts of more than 256 bytes are cut. `count` is the
- * number of mailmaps. `needed` is the length of the text, and 0 on OUT_OF_MEMORY.
+ * takes for a command, as `##\x5b`; a line that begins with `::`, which it takes for one, too, begins with `\x3a:` in
+ * place of that. Names, emails and ignored texts of more than 256 bytes are cut. `count` is the number of mailmaps.
+ * `needed` is the length of the text, and 0 on OUT_OF_MEMORY.
  * OK; TOO_SHORT; OUT_OF_MEMORY. */
 gix_mailmap_status gix_mailmap_report(const gix_mailmap_named *mailmaps, size_t count, char *GIX_MAILMAP_RESTRICT out,
                                       size_t out_len, size_t *GIX_MAILMAP_RESTRICT needed)

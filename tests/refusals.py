@@ -48,6 +48,8 @@ class Mode(NamedTuple):
     is_written_early: bool = False
     # the message beside the output if nothing is refused
     said: bytes = b""
+    # the files that come between the words, in each run
+    files: tuple[list[str], ...] = ([LONG], MANY)
 
 
 CHECK, VERIFY, SHORTLOG = "mailmap_check", "mailmap_verify", "mailmap_shortlog"
@@ -83,6 +85,7 @@ MODES = [
          b'"name":{"text":"bob"}},"count":1,"email":{"text":"bob@example.com"},"file":{"text":"alike"},'
          b'"kind":"same-name","level":"note","line":4,"message":{"text":"bob <bob@example.com> (1) has the name of '
          b'bob <b@example.com> (1)"},"name":{"text":"bob"}}\n', True),
+    Mode(VERIFY, ["--prune"], ["twice"], "contacts", 0, ONCE, files=([],)),
     Mode(VERIFY, ["--prune", "--in-place"], ["twice"], "contacts", 0, b""),
     Mode(SHORTLOG, ["-ne"], ["mailmap"], "contacts", 0, b"     1\tJoe R. Developer <joe@example.com>\n", True,
          b"mailmap_shortlog: lines without a contact: 1; the first is line 2\n"),
@@ -134,7 +137,7 @@ def main(programs):
             Path(name).write_bytes(text)
         refusing = Refusing()
         for mode in MODES:
-            for files in [LONG], MANY:
+            for files in mode.files:
                 refusals = refuse(refusing, mode, programs[mode.program], files)
                 print(f"{mode.program} {' '.join(mode.before)}, {len(files)} files: {refusals} failures")
                 failed += refusals < len(files)

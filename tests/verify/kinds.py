@@ -2,8 +2,9 @@
 
 Who adds a kind and forgets one of these learns it here. The names, and their order, are those that the program lists
 for an unknown kind. The header numbers the kinds that need no contacts, in the order in which they came; for two of
-them it has another name.
+them it has another name. The lines of the manual's findings are compared with those of the stored cases.
 """
+import json
 import re
 from pathlib import Path
 
@@ -37,6 +38,33 @@ def in_manual():
     return distinct(name.replace("\\-", "-") for name in names)
 
 
+def manual_lines():
+    """The lines of the manual's findings as patterns. What alternates with text, in italics, stands for anything."""
+    for line in found("man/mailmap_verify.1", ".SH FINDINGS\n", "\n.SH ", r"^\.IB ((?:.*\\\n)*.*)$"):
+        parts = re.findall(r'"[^"]*"|[^\s"]+', line.replace("\\\n", " "))
+        texts = [re.escape(text.strip('"').replace("\\-", "-").replace("\\(aq", "'")) for text in parts]
+        texts[::2] = [".*"] * len(texts[::2])
+        # a contact without a name begins with its email
+        yield re.compile("".join(texts).replace(r".*\ <", r"(.*\ )?<"), re.DOTALL)
+
+
+def stored_lines():
+    """The lines of all stored findings, also of those about contacts."""
+    for name in "cases.jsonl", "git.jsonl", "explained.jsonl":
+        for case in open(Path(__file__).with_name(name), encoding="ascii"):
+            stored = json.loads(case)
+            for part in {"verify", "with_contacts"} & stored.keys():
+                yield from bytes.fromhex(stored[part][1]).decode(errors="replace").splitlines()
+
+
+def wants_manual():
+    """Checks that each stored line is one of the manual's, and each of the manual's is stored."""
+    lines, patterns = set(stored_lines()), list(manual_lines())
+    unknown = [line for line in sorted(lines) if not any(pattern.fullmatch(line) for pattern in patterns)]
+    unused = [pattern.pattern for pattern in patterns if not any(map(pattern.fullmatch, lines))]
+    wants_kinds("lines of the manual", (unknown, unused), ([], []))
+
+
 def on_page():
     """The kinds in the examples of docs/VERIFY.md. Those of contacts come as the lines of the contacts do."""
     names = distinct(found("docs/VERIFY.md", "\n## Errors\n", "\n## Recipes\n", r"^[\w.]+:\d+: \w+: .* \[([a-z-]+)\]$"))
@@ -54,6 +82,7 @@ def kinds(program):
     usage = run(program, ["--help"])[1].decode()
     wants_kinds("--help", re.search(r"^Kinds: ([^.]*)\.$", usage, re.MULTILINE)[1].replace(",", "").split(), names)
     wants_kinds("the manual", in_manual(), names)
+    wants_manual()
     wants_kinds("docs/VERIFY.md", on_page(), (names[:count], sorted(names[count:])))
     wants_numbers([IN_HEADER.get(name, name.upper().replace("-", "_")) for name in names[:count]])
 

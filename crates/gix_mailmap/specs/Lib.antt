@@ -1,8 +1,10 @@
 pub use Rattle.mailmap_entries.specs.Folding
 pub use Rattle.mailmap_entries.specs.Entries
+pub use Rattle.mailmap_entries.specs.Prefixes
 pub use Rattle.mailmap_entries.specs.Search
 pub use Rattle.mailmap_grammar.specs.Trimming
 pub use Rattle.mailmap_grammar.specs.Lines
+pub use Rattle.mailmap_grammar.specs.LineParts
 pub use Rattle.mailmap_grammar.specs.CanonicalText
 pub use Rattle.mailmap_entries.specs.Semantics
 pub use Rattle.mailmap_entries.specs.Building
@@ -31,6 +33,9 @@ pub use Rattle.mailmap_snapshot.specs.Streams
 pub use Rattle.mailmap_contacts.specs.Contacts as CountedContacts
 pub use Rattle.mailmap_contacts.specs.Counts
 pub use Rattle.mailmap_contacts.specs.Proper
+pub use Rattle.mailmap_names.specs.Words
+pub use Rattle.mailmap_names.specs.Keys
+pub use Rattle.mailmap_names.specs.Logins
 pub use Rattle.mailmap_suggestions.specs.Forms
 pub use Rattle.mailmap_suggestions.specs.Counted
 pub use Rattle.mailmap_suggestions.specs.EntryLines

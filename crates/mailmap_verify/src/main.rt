@@ -1,5 +1,5 @@
-//! Prints what is wrong with mailmaps line by line, or a mailmap without its redundant lines, or the lines behind the
-//! answers to contacts.
+//! Prints what is wrong with mailmaps and with contacts line by line, or a mailmap without its redundant lines, or the
+//! lines behind the answers to contacts, or the lines that mailmaps lack.
 //!
 //! `USAGE` of `verify_command` has the modes and the options, and `verify_command::request` parses them.
 //!
