@@ -191,12 +191,8 @@ def verify(mailmap: Text) -> list[Finding]:
     return [Finding.of(*one, words=line.partition(": ")[2]) for one, line in zip(found, messages.split("\n"))]
 
 
-# the functions for each format, without contacts and with them
-_REPORTS = {
-    "gcc": (_native.report, _native.report_beside),
-    "json": (_native.report_json, _native.report_json_beside),
-    "github": (_native.report_github, _native.report_github_beside),
-}
+# in the order of the library's numbers for them
+_FORMATS = ("gcc", "json", "github")
 
 
 @of_named
@@ -213,10 +209,9 @@ def report(mailmaps: Iterable[tuple[Any, Any]], contacts: Any = None, format: st
     annotation, which GitHub shows at a line of a file. `findings` has the same as `Notice`s.
     """
     texts = [*([] if contacts is None else _named([contacts])), *_named(mailmaps)]
-    if format not in ("gcc", "json", "github"):
+    if format not in _FORMATS:
         raise ValueError(f"the format is 'gcc', 'json' or 'github', not {format!r:.80}")
-    alone, beside = _REPORTS[format]
-    return alone(*texts) if contacts is None else beside(*texts)
+    return _native.report(_FORMATS.index(format), contacts is not None, *texts)
 
 
 @overload

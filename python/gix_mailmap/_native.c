@@ -143,37 +143,28 @@ static PyObject *new_named_tuple(PyObject *class, PyObject *const items[4], PyOb
 }
 
 /* The functions of the library that write into a buffer. */
-typedef enum Which {
-    CHECK, COMPACT, PRUNE, VERIFY, REPORT, JSON, GITHUB, BESIDE, JSON_BESIDE, GITHUB_BESIDE, EXPLAIN, SUGGEST, UNNEEDED,
-    WRITE
-} Which;
+typedef enum Which { CHECK, COMPACT, PRUNE, VERIFY, REPORT, EXPLAIN, SUGGEST, UNNEEDED, WRITE } Which;
 
-/* The arguments of such a function: texts, mailmaps with their names, or an open mailmap. */
+/* The arguments of such a function: texts, mailmaps with their names, or an open mailmap; for a report its format, and
+ * contacts or NULL. */
 typedef struct Given {
     const Text *texts;
-    const gix_mailmap_named *named;
+    const gix_mailmap_named *named, *contacts;
     size_t count;
     const gix_mailmap *map;
+    gix_mailmap_format format;
 } Given;
 
 static gix_mailmap_status write_into(Which which, const Given *given, void *out, size_t out_len, size_t *needed)
 {
     const Text *a = &given->texts[0], *b = &given->texts[1];
-    const gix_mailmap_format format = which == JSON || which == JSON_BESIDE ? GIX_MAILMAP_FORMAT_JSON
-        : which == GITHUB || which == GITHUB_BESIDE ? GIX_MAILMAP_FORMAT_GITHUB : GIX_MAILMAP_FORMAT_GCC;
     switch (which) {
     case CHECK: return gix_mailmap_check(a->at, a->len, b->at, b->len, out, out_len, needed);
     case COMPACT: return gix_mailmap_compact(a->at, a->len, out, out_len, needed);
     case PRUNE: return gix_mailmap_prune(a->at, a->len, out, out_len, needed);
     case VERIFY: return gix_mailmap_verify(a->at, a->len, out, out_len, needed);
-    case REPORT:
-    case JSON:
-    case GITHUB: return gix_mailmap_report_as(given->named, given->count, NULL, format, out, out_len, needed);
-    /* the first one is the contacts */
-    case BESIDE:
-    case JSON_BESIDE:
-    case GITHUB_BESIDE: return gix_mailmap_report_as(given->named + 1, given->count - 1, given->named, format, out,
-                                                     out_len, needed);
+    case REPORT: return gix_mailmap_report_as(given->named, given->count, given->contacts, given->format, out, out_len,
+                                              needed);
     case EXPLAIN: return gix_mailmap_explain(given->named, given->count, a->at, a->len, out, out_len, needed);
     case SUGGEST: return gix_mailmap_suggest(given->named, given->count, a->at, a->len, out, out_len, needed);
     case UNNEEDED: return gix_mailmap_unneeded(given->named, given->count, a->at, a->len, out, out_len, needed);
@@ -240,13 +231,11 @@ static PyObject *make_findings(const Given *given)
     return both != NULL ? both : raise_no_memory();
 }
 
-/* Calls a function that takes only texts: the contacts, if it takes any, with their name from BESIDE to GITHUB_BESIDE,
- * and then each mailmap's name and its text. */
-static PyObject *call(Which which, PyObject *args)
+/* Calls a function with texts: the contacts, if it takes any, for a report with their name, and then each mailmap's
+ * name and its text. */
+static PyObject *call(Which which, gix_mailmap_format format, bool has_contacts, PyObject *args)
 {
-    size_t count = (size_t)PyTuple_Size(args), guess = 4096;
-    if (count < 2 && BESIDE <= which && which <= GITHUB_BESIDE)
-        return PyErr_Format(PyExc_TypeError, "expected contacts with their name");
+    size_t count = (size_t)PyTuple_Size(args), first = has_contacts ? 1 : 0, guess = 4096;
     Text *texts = PyMem_Calloc(count + 2, sizeof *texts);
     gix_mailmap_named *named = PyMem_Calloc(count / 2 + 1, sizeof *named);
     bool ok = (texts != NULL && named != NULL) || raise_no_memory();
@@ -254,24 +243,38 @@ static PyObject *call(Which which, PyObject *args)
         ok = get_text(PyTuple_GetItem(args, (Py_ssize_t)i), &texts[i]) && is_kind(texts[0].is_str, &texts[i]);
     for (size_t i = count % 2; ok && i + 1 < count; i += 2)
         named[i / 2] = (gix_mailmap_named){texts[i].at, texts[i].len, texts[i + 1].at, texts[i + 1].len};
-    const Given given = {.texts = texts, .named = named, .count = count / 2};
+    const Given given = {.texts = texts, .named = named + first, .contacts = has_contacts ? named : NULL,
+                         .count = count / 2 - first, .format = format};
     PyObject *made = !ok ? NULL
         : which == VERIFY ? make_findings(&given)
         : which == UNNEEDED ? make_rows(which, &given)
-        : make_text(which, &given, texts[0].is_str, which < REPORT || which > GITHUB_BESIDE ? guess : 4096);
+        : make_text(which, &given, texts[0].is_str, which != REPORT ? guess : 4096);
     release(texts, texts != NULL ? count : 0);
     PyMem_Free(texts), PyMem_Free(named);
     return made;
 }
 
 #define FUNCTIONS(each) each(check, CHECK) each(compact, COMPACT) each(prune, PRUNE) each(verify, VERIFY) \
-    each(report, REPORT) each(report_json, JSON) each(report_github, GITHUB) each(report_beside, BESIDE) \
-    each(report_json_beside, JSON_BESIDE) each(report_github_beside, GITHUB_BESIDE) \
     each(explain, EXPLAIN) each(suggest, SUGGEST) each(unneeded, UNNEEDED)
 #define DEFINED(name, which) \
-    static PyObject *name(PyObject *Py_UNUSED(module), PyObject *args) { return call(which, args); }
+    static PyObject *name(PyObject *Py_UNUSED(module), PyObject *args) \
+    { return call(which, GIX_MAILMAP_FORMAT_GCC, false, args); }
 #define LISTED(name, which) {#name, name, METH_VARARGS, NULL},
 FUNCTIONS(DEFINED)
+
+/* A report: the number of its format, whether there are contacts, and the texts. */
+static PyObject *report(PyObject *Py_UNUSED(module), PyObject *args)
+{
+    int format, has_contacts;
+    PyObject *first = PyTuple_GetSlice(args, 0, 2), *texts = PyTuple_GetSlice(args, 2, PY_SSIZE_T_MAX), *made = NULL;
+    bool ok = first != NULL && texts != NULL && PyArg_ParseTuple(first, "ip", &format, &has_contacts);
+    if (ok && has_contacts && PyTuple_Size(texts) < 2)
+        PyErr_SetString(PyExc_TypeError, "expected contacts with their name");
+    else if (ok)
+        made = call(REPORT, (gix_mailmap_format)format, has_contacts, texts);
+    Py_XDECREF(first), Py_XDECREF(texts);
+    return made;
+}
 
 /* The lines of a mailmap that give an entry or have a fault: the number of each, the kind of its fault or 0, and where
  * its texts begin and end, in bytes. */
@@ -764,7 +767,7 @@ static void module_free(void *module)
     Py_CLEAR(*(PyObject **)PyModule_GetState(module));
 }
 
-static PyMethodDef functions[] = {FUNCTIONS(LISTED) {"parse", parse, METH_O, NULL}, {0}};
+static PyMethodDef functions[] = {FUNCTIONS(LISTED) LISTED(report, REPORT) {"parse", parse, METH_O, NULL}, {0}};
 static PyModuleDef definition = {
     .m_base = PyModuleDef_HEAD_INIT, .m_name = "gix_mailmap._native", .m_size = sizeof(PyObject *),
     .m_methods = functions, .m_traverse = module_traverse, .m_free = module_free,

@@ -54,13 +54,12 @@ class Refused(unittest.TestCase):
         pairs = "a", MAP, accented(), "plain\n"
         for name, arguments in (
             ("check", (MAP, "jd <jd@y>")), ("compact", (MAP,)), ("prune", (bytearray(BYTES),)), ("verify", ("x\ny",)),
-            ("report", pairs), ("report_json", pairs), ("report_beside", ("h", "j <a>\nJ <a>", *pairs)),
-            ("report_json_beside", ("h", "j <a>\nJ <a>", *pairs)), ("report_github", pairs),
-            ("report_github_beside", ("h", "j <a>\nJ <a>", *pairs)),
+            *[("report", (format, False, *pairs)) for format in range(3)],
+            *[("report", (format, True, "h", "j <a>\nJ <a>", *pairs)) for format in range(3)],
             ("parse", (MANY,)), ("parse", (surrogate() + "\n" + MANY,)),
             ("explain", ("jd <jd@y>", *pairs)), ("unneeded", ("", *pairs)),
             ("suggest", ("a <x@x>\nb <x@x>", *pairs)),
-            ("verify", ("x\n" * 200,)), ("report", ("a", "x\n" * 400)), ("compact", (surrogate(),)),
+            ("verify", ("x\n" * 200,)), ("report", (0, False, "a", "x\n" * 400)), ("compact", (surrogate(),)),
         ):
             with self.subTest(name=name):
                 function = getattr(_native, name)
