@@ -15,10 +15,10 @@ use Rattle.gix_mailmap.specs.Lines.{mappings_of}
 use Rattle.gix_mailmap.specs.Forms.{alike}
 use Rattle.gix_mailmap.specs.GroupEntries.{email_entries, with_emails}
 use Rattle.gix_mailmap.specs.Histories.{histories_of}
-use Rattle.gix_mailmap.specs.Selections.{after_logins, by_login, by_name, stage_entries}
+use Rattle.gix_mailmap.specs.Selections.{after_logins, by_login, by_name}
 use Rattle.gix_mailmap.specs.Shared.{shared_emails}
 use Rattle.gix_mailmap.specs.SuggestedText.{feed_after, feed_unless, printed, suggested_text, suggestions_text}
-use Rattle.gix_mailmap.specs.Suggestions.{GroupClasses, Suggestion, is_remembered, lines_in, new_entries, suggestions}
+use Rattle.gix_mailmap.specs.Suggestions.{GroupClasses, Suggestion, is_remembered, lines_in, new_entries, stage_entries, suggestions}
 use Rattle.gix_mailmap.specs.Written.{selected_text}
 use Rattle.caller_promises.specs.Suggested.{AreUnited, git_mappings_in, mappings_in, selection_of, with_last}
 

@@ -22,7 +22,7 @@ use Rattle.mailmap_suggestions.specs.Forms.{Histories, alike, name_unless_empty}
 use Rattle.mailmap_suggestions.specs.GroupEntries.{IsWritableContact, all_entries, are_alike, are_cut, contacts, email_class, email_entries, group_entries, groups, members, only, proper_answer, wanted_entries, with_classes, with_emails}
 use Rattle.mailmap_suggestions.specs.Shortened.{crosses, front_len, short_contact, shortened, shortened_to}
 use Rattle.mailmap_suggestions.specs.SuggestedText.{by_git, comment, comments, count_line, count_lines, cut_lines, entry_line, entry_lines, kind_lines, suggestion_text, suggestions_text}
-use Rattle.mailmap_suggestions.specs.Suggestions.{GroupClasses, Kind, Suggestion, by_alike_names, by_email, by_login, by_name, by_shared_email, after_emails, after_names, email_key, email_kind, email_suggestions, entries_for, has_any, is_of_several, is_remembered, login_kind, login_suggestions, name_kind, name_suggestions, needs_review, new_entries, still_suggested, suggestion, suggestions, with_entries}
+use Rattle.mailmap_suggestions.specs.Suggestions.{GroupClasses, Kind, Suggestion, by_alike_names, by_email, by_login, by_name, by_shared_email, after_emails, after_all_names, email_key, email_kind, email_suggestions, entries_for, has_any, is_of_several, is_remembered, login_kind, login_suggestions, name_kind, name_suggestions, needs_review, new_entries, still_suggested, suggestion, suggestions, with_entries}
 use Rattle.mailmap_suggestions.specs.Written.{ContactHoldsNoZero, FitsLine, HoldsNoZero, IsGood, IsUncut, IsWritableSuggestion, groups_text, has_marks, kind_text, selected_text, text_with, unmarked_entries}
 use Rattle.mailmap_suggestions.proofs.Appended.{IsCareful, OfForms, answers_all, each_entry}
 use Rattle.mailmap_suggestions.proofs.Distinct.{◌∈◌, all_joined, all_of, at, each}
@@ -357,7 +357,7 @@ module _ (shared : List Text) (c : GroupClasses) (seen : List Text) (h : Histori
   all_uncut : AllByRecursion AreUncut (suggestions shared c seen h ts)
   all_uncut =
       let more = after_emails shared h ts in
-      let whole = after_names shared c h ts in
+      let whole = after_all_names shared c h ts in
       let emails = email_suggestions shared h ts in
       let names = name_suggestions shared c h ts in
       let logins = login_suggestions shared c h ts in

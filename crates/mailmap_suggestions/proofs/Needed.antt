@@ -404,7 +404,7 @@ module _ (shared : List Text) (base h : List Mapping) (ts : List Tally) (class :
             (m.0, (m.1, is_on, counted m.0 (of_block t m.0 m.1).0 m.2), m.3)
 
     needed : (front rest : List Mapping) → flat_map (part shared base h ts class) (distinct (all_texts shared base h ts class)) ≡ front ++ x ∷ rest
-        → GetProperWith (record { shared = shared; tallies = ts; class = class; base = base; grouped = h }) x (base ++ (front ++ rest)) → ⊥
+        → GetProperWith (record { shared = shared; tallies = ts; class = class; base = alike base; grouped = alike h }) x (base ++ (front ++ rest)) → ⊥
     needed front rest is all =
         let m = from_parts shared base (part shared base h ts class) to InBlock apart_blocks x each_block (all_texts shared base h ts class) front rest is in
         let t = m.0 in
@@ -416,20 +416,20 @@ module _ (shared : List Text) (base h : List Mapping) (ts : List Tally) (class :
         let answered = at _ (contacts ts) all c found.0 (has_entries_is shared base h ts class c ∙ active) among in
         m.3 (subst (λ k. IsAnswered (base ++ (front ++ rest)) (to k) c) found.1 answered)
 
-  pub each_needed : EachNeeded out (record { shared = shared; tallies = ts; class = class; base = base; grouped = h })
+  pub each_needed : EachNeeded out (record { shared = shared; tallies = ts; class = class; base = alike base; grouped = alike h })
   each_needed front rest x is counted all = needed x (at _ (contacts ts) counted) front rest (sym (added_are shared base h ts class) ∙ is) all
 
 -- ==== by email, by names, and by logins
 
 module _ (shared : List Text) (h : List Mapping) (ts : List Tally) (named : AllByRecursion HasNoEmptyName h) where
-  pub needed_emails : EachNeeded never (record { shared = shared; tallies = ts; class = email_class shared; base = h; grouped = h })
+  pub needed_emails : EachNeeded never (record { shared = shared; tallies = ts; class = email_class shared; base = alike h; grouped = alike h })
   needed_emails = each_needed shared h h ts (email_class shared) never named (λ t. proper_wanting shared h (these shared h h ts (email_class shared) t)) (email_together shared h ts named) (email_spell shared h ts named)
 
   abbrev g : List Mapping
   g = with_emails shared h ts
 
   module _ (class : Contact → Text) (careful : IsCareful shared class never g ts) where
-    pub needed_names : (p : Text → Bool) → EachNeeded (cut_for_names shared h ts named class careful p) (record { shared = shared; tallies = ts; class = only p class; base = g; grouped = g })
+    pub needed_names : (p : Text → Bool) → EachNeeded (cut_for_names shared h ts named class careful p) (record { shared = shared; tallies = ts; class = only p class; base = alike g; grouped = alike g })
     needed_names p = each_needed shared g g ts (only p class) (cut_for_names shared h ts named class careful p) (emails_named shared h ts named) (λ t. proper_wanting shared g (these shared g g ts (only p class) t))
         (together_for shared h ts named class careful p) (spell shared h ts named class careful p)
 
@@ -437,7 +437,7 @@ module _ (shared : List Text) (h : List Mapping) (ts : List Tally) (named : AllB
     f = with_classes shared class g ts
 
     pub needed_logins : ((c : Contact) → c ∈ contacts ts → (answer_to g c).name ≡ [] → class (answer_to g c) ≡ []) → (next : Contact → Text) (also : IsCareful shared next (cut_before shared h ts named class careful) f ts) (p : Text → Bool)
-        → EachNeeded (cut_for_next shared h ts named class careful next also p) (record { shared = shared; tallies = ts; class = only p next; base = g; grouped = f })
+        → EachNeeded (cut_for_next shared h ts named class careful next also p) (record { shared = shared; tallies = ts; class = only p next; base = alike g; grouped = alike f })
     needed_logins unnamed next also p = each_needed shared g f ts (only p next) (cut_for_next shared h ts named class careful next also p) (emails_named shared h ts named) (next_wants shared h ts named class careful unnamed (only p next))
         (next_for shared h ts named class careful next also p)
         (λ b c i j some. next_spell shared h ts named class careful next also b c i j (only_some p (next (answer_to f b)) some).1)

@@ -11,7 +11,7 @@ use Rattle.mailmap_contacts.specs.Contacts.{Contact, Tally, answer_to}
 use Rattle.mailmap_contacts.proofs.Steps.{all_filtered}
 use Rattle.mailmap_suggestions.specs.Forms.{Histories, distinct, is_shared}
 use Rattle.mailmap_suggestions.specs.GroupEntries.{are_alike, are_cut, classes, contacts, email_class, email_entries, group_entries, groups, members, only, wanted_entries}
-use Rattle.mailmap_suggestions.specs.Suggestions.{GroupClasses, Suggestion, after_emails, after_names, by_alike_names, by_email, by_name, by_shared_email, email_key, email_kind, email_suggestions, entries_for, first_answer, has_any, have_one_name, is_remembered, login_kind, login_suggestions, name_kind, name_suggestions, needs_review, new_entries, still_suggested, suggestion, suggestions, unless_empty, with_entries}
+use Rattle.mailmap_suggestions.specs.Suggestions.{GroupClasses, Suggestion, after_emails, after_all_names, by_alike_names, by_email, by_name, by_shared_email, email_key, email_kind, email_suggestions, entries_for, first_answer, has_any, have_one_name, is_remembered, login_kind, login_suggestions, name_kind, name_suggestions, needs_review, new_entries, still_suggested, suggestion, suggestions, unless_empty, with_entries}
 use Rattle.mailmap_suggestions.specs.SuggestedText.{suggestion_text, suggestions_text}
 use Rattle.mailmap_suggestions.specs.Written.{IsWritableSuggestion, class_of, has_marks, selected_text, text_with, unmarked_entries}
 use Rattle.mailmap_grammar.specs.Lines.{mappings_of}
@@ -256,7 +256,7 @@ module _ (shared : List Text) (c : GroupClasses) (seen : List Text) (h : Histori
   more = after_emails shared h ts
 
   abbrev whole : Histories
-  whole = after_names shared c h ts
+  whole = after_all_names shared c h ts
 
   abbrev entries_of : Suggestion → List Mapping
   entries_of s = if reviewed s then [] else s.entries
@@ -310,7 +310,7 @@ each_own seen make is (g ∷ gs) = (λ i. own_marks seen (make g) (is g) i ++ ea
 pub none_selected : (shared : List Text) (c : GroupClasses) (seen : List Text) (h : Histories) (ts : List Tally) → selected_text shared c (λ _. false) (λ _. false) seen h ts ≡ suggestions_text (suggestions shared c seen h ts)
 none_selected shared c seen h ts =
     let m = after_emails shared h ts in
-    let all = after_names shared c h ts in
+    let all = after_all_names shared c h ts in
     let by_names = λ (g : List Tally). suggestion shared m m (name_kind m g) g in
     let by_logins = λ (g : List Tally). suggestion shared m all (login_kind shared all ts g) g in
     let still = still_suggested seen in

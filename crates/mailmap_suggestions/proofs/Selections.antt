@@ -1,30 +1,30 @@
 -- What any selection of groups does: the laws about it.
-use Rattle.std.proofs.Common.{◌≡◌, ◌≢◌, ◌∙◌, ◌&&◌, Bool, true, false, true≢false, not, List, [], ◌∷◌, ◌++◌, None, ap, bytes_eq, cond, refl, subst, sym, ⊎_elim, if◌then◌else◌}
-use Rattle.std.specs.List.{AllByRecursion}
+use Rattle.std.proofs.Common.{◌≡◌, ◌≢◌, ◌∙◌, ◌&&◌, Bool, true, false, true≢false, not, List, [], ◌∷◌, ◌++◌, None, ap, bytes_eq, cond, filter, map, refl, subst, sym, ⊎_elim, if◌then◌else◌}
+use Rattle.std.specs.List.{AllByRecursion, flat_map, list_any}
 use Rattle.std.specs.Ordering.{eq_by_cmp}
 use Rattle.std.proofs.lemmas.Bool.{and_parts, not-true}
 use Rattle.mailmap_entries.specs.Entries.{Mapping}
 use Rattle.mailmap_entries.specs.Folding.{Text, folded}
 use Rattle.mailmap_entries.specs.Semantics.{Key, accepted, key, key_cmp, of_key}
 use Rattle.mailmap_entries.proofs.Parts.{all_weaker}
-use Rattle.mailmap_contacts.specs.Contacts.{Contact, answer_to}
+use Rattle.mailmap_contacts.specs.Contacts.{Contact, Tally, answer_to}
 use Rattle.mailmap_contacts.proofs.Steps.{all_filtered}
 use Rattle.mailmap_findings.specs.GitAnswers.{git_mappings}
 use Rattle.mailmap_grammar.specs.CanonicalText.{IsWritable}
 use Rattle.mailmap_grammar.specs.Lines.{mappings_of}
-use Rattle.mailmap_suggestions.specs.Forms.{alike, own_key}
-use Rattle.mailmap_suggestions.specs.GroupEntries.{Agree, HasNoEmptyName, IsWritableContact, contacts, is_grouped, only}
-use Rattle.mailmap_suggestions.specs.Selections.{AllAgreeBut, AreAllNew, AreLinked, EachNeeded, Selection, Selects, Stage, after_all_names, after_emails, after_logins, after_names, by_email, by_login, by_name, entries_of, has_class, has_cut_email, has_entries, is_left_out, is_left_out_later, is_line_remembered, is_united, lines_for, stage_entries, uncut_class}
-use Rattle.mailmap_suggestions.specs.Suggestions.{has_any, is_remembered, new_entries}
+use Rattle.mailmap_suggestions.specs.Forms.{alike, distinct, own_key}
+use Rattle.mailmap_suggestions.specs.GroupEntries.{Agree, HasNoEmptyName, IsWritableContact, are_alike, are_cut, contacts, group_entries, is_grouped, members, only}
+use Rattle.mailmap_suggestions.specs.Selections.{AllAgreeBut, AreAllNew, AreLinked, EachNeeded, Selection, Selects, after_emails, after_logins, after_names, by_any_login, by_email, by_login, by_name, entries_of, has_class, has_cut_email, has_entries, is_left_out, is_left_out_later, is_line_remembered, is_united, lines_for, uncut_class}
+use Rattle.mailmap_suggestions.specs.Suggestions.{Stage, has_any, is_remembered, new_entries, stage_entries}
 use Rattle.mailmap_suggestions.specs.Written.{ContactHoldsNoZero, HoldsNoZero, selected_text}
 use Rattle.mailmap_suggestions.proofs.Appended.{IsCareful, accepted_all}
 use Rattle.mailmap_suggestions.proofs.Careful.{careful, careful_logins, named_alike, unnamed}
-use Rattle.mailmap_suggestions.proofs.Distinct.{◌∈◌, all_of, each, each_pair, part_joined}
+use Rattle.mailmap_suggestions.proofs.Distinct.{◌∈◌, all_among, all_of, among_passing, at, each, each_pair, part_joined}
 use Rattle.mailmap_suggestions.proofs.GitText.{git_reads_selected}
 use Rattle.mailmap_suggestions.proofs.Needed.{needed_emails, needed_logins, needed_names, none_split}
 use Rattle.mailmap_suggestions.proofs.Proper.{Each}
 use Rattle.mailmap_suggestions.proofs.Together.{logins_agree, logins_others, logins_united, names_agree, names_others, names_united, no_entries, none_or_one, nothing_added}
-use Rattle.mailmap_suggestions.proofs.United.{added_are, all_texts, cut_before, emails_named, has_entries_is, neither, never, one_by_class, part, part_on, spell, text_among, together_for, writable_named}
+use Rattle.mailmap_suggestions.proofs.United.{cut_before, emails_named, flat_filtered, neither, never, one_by_class, spell, together_for, writable_named}
 use Rattle.mailmap_suggestions.proofs.Writable.{selected_read}
 
 module _ (s : Selection) (named : AllByRecursion HasNoEmptyName s.mappings) (linked : AreLinked s) where
@@ -38,7 +38,7 @@ module _ (s : Selection) (named : AllByRecursion HasNoEmptyName s.mappings) (lin
       (a b).name ≡ (a c).name → (a b).name ≢ [] → s.classes.by_name (a b) ≢ [] → s.classes.by_name (a c) ≢ [] → s.classes.by_name (a b) ≡ s.classes.by_name (a c)
   alike_named = named_alike s.shared (after_emails s) s.tallies s.classes.by_name linked.by_name
 
-  careful_next : (k : Text) → s.logins_pass k ≡ true → IsCareful s.shared s.classes.by_login (cut_before s.shared s.mappings s.tallies named s.classes.by_name careful_names) (after_all_names s) s.tallies
+  careful_next : (k : Text) → s.logins_pass k ≡ true → IsCareful s.shared s.classes.by_login (cut_before s.shared s.mappings s.tallies named s.classes.by_name careful_names) (by_any_login s).grouped.ours s.tallies
   careful_next k passes = careful_logins s.shared s.mappings s.tallies named s.classes.by_name s.classes.by_login linked.by_name (linked.by_login k passes)
 
   -- ---- what is selected
@@ -53,9 +53,9 @@ module _ (s : Selection) (named : AllByRecursion HasNoEmptyName s.mappings) (lin
   names_stay = names_agree s.shared s.mappings s.tallies named s.classes.by_name careful_names s.names_pass s.seen
 
   -- if no group by login is selected
-  no_login : AllByRecursion (λ c. only s.logins_pass s.classes.by_login (answer_to (after_all_names s) c) ≡ []) (contacts s.tallies) → Selects s.seen (is_left_out_later s) (by_login s) (after_names s) (after_names s)
+  no_login : AllByRecursion (λ c. only s.logins_pass s.classes.by_login (answer_to (by_any_login s).grouped.ours c) ≡ []) (contacts s.tallies) → Selects s.seen (is_left_out_later s) (by_login s) (after_names s) (after_names s)
   no_login none = record {
-    united = all_weaker (contacts s.tallies) (λ c empty o is. absurd (true≢false (sym (and_parts (has_class (by_login s) c) _ (and_parts (is_grouped (by_login s).class (alike (after_all_names s)) s.tallies c) _ (and_parts (has_entries (by_login s) c) _ is).0).0).0
+    united = all_weaker (contacts s.tallies) (λ c empty o is. absurd (true≢false (sym (and_parts (has_class (by_login s) c) _ (and_parts (is_grouped (by_login s).class (by_login s).grouped s.tallies c) _ (and_parts (has_entries (by_login s) c) _ is).0).0).0
         ∙ ap (λ k. not (bytes_eq k [])) empty))) none;
     others = each _ (contacts s.tallies) (λ c i o is. (refl, refl));
   }
@@ -78,15 +78,15 @@ module _ (s : Selection) (named : AllByRecursion HasNoEmptyName s.mappings) (lin
 
   pub logins_stay : Stay (after_logins s)
   logins_stay = ⊎_elim
-      (λ none. subst Stay (sym (nothing_added s.shared (after_emails s) (after_all_names s) s.tallies (by_login s).class none s.seen (after_names s))) (both_stay (after_names s) names_stay))
+      (λ none. subst Stay (sym (nothing_added s.shared (after_emails s) (by_any_login s).grouped.ours s.tallies (by_login s).class none s.seen (after_names s))) (both_stay (after_names s) names_stay))
       (λ (k, passes). logins_agree s.shared s.mappings s.tallies named s.classes.by_name careful_names unnamed_none alike_named s.classes.by_login (careful_next k passes) s.logins_pass s.names_pass s.seen)
-      (none_or_one s.logins_pass s.classes.by_login (after_all_names s) (contacts s.tallies))
+      (none_or_one s.logins_pass s.classes.by_login (by_any_login s).grouped.ours (contacts s.tallies))
 
   pub selects_logins : Selects s.seen (is_left_out_later s) (by_login s) (after_names s) (after_logins s)
   selects_logins = ⊎_elim
-      (λ none. subst (Selects s.seen (is_left_out_later s) (by_login s) (after_names s)) (sym (nothing_added s.shared (after_emails s) (after_all_names s) s.tallies (by_login s).class none s.seen (after_names s))) (no_login none))
+      (λ none. subst (Selects s.seen (is_left_out_later s) (by_login s) (after_names s)) (sym (nothing_added s.shared (after_emails s) (by_any_login s).grouped.ours s.tallies (by_login s).class none s.seen (after_names s))) (no_login none))
       (λ (k, passes). some_login k passes)
-      (none_or_one s.logins_pass s.classes.by_login (after_all_names s) (contacts s.tallies))
+      (none_or_one s.logins_pass s.classes.by_login (by_any_login s).grouped.ours (contacts s.tallies))
 
   -- if no line by name is remembered, no two answers have one class and differ
   pub classes_agree : AreAllNew s.seen (by_name s) → AllAgreeBut (is_left_out s) (uncut_class (by_name s)) (after_names s) (contacts s.tallies)
@@ -101,9 +101,9 @@ module _ (s : Selection) (named : AllByRecursion HasNoEmptyName s.mappings) (lin
 
   pub needs_logins : EachNeeded (is_left_out_later s) (by_login s)
   needs_logins front rest x is counted all = ⊎_elim
-      (λ none. none_split front rest x (sym (no_entries s.shared (after_emails s) (after_all_names s) s.tallies (by_login s).class none) ∙ is))
+      (λ none. none_split front rest x (sym (no_entries s.shared (after_emails s) (by_any_login s).grouped.ours s.tallies (by_login s).class none) ∙ is))
       (λ (k, passes). needed_logins s.shared s.mappings s.tallies named s.classes.by_name careful_names unnamed_none s.classes.by_login (careful_next k passes) s.logins_pass front rest x is counted all)
-      (none_or_one s.logins_pass s.classes.by_login (after_all_names s) (contacts s.tallies))
+      (none_or_one s.logins_pass s.classes.by_login (by_any_login s).grouped.ours (contacts s.tallies))
 
 pub needs_emails : (s : Selection) → AllByRecursion HasNoEmptyName s.mappings → EachNeeded never (by_email s)
 needs_emails s = needed_emails s.shared s.mappings s.tallies
@@ -138,19 +138,37 @@ module _ (seen : List Text) where
   all_new : (es : List Mapping) → new_entries seen es ≡ es → AllByRecursion IsNew es
   all_new es same = subst (AllByRecursion IsNew) same (all_filtered (λ e. not (is_remembered seen e)) (λ _. Unit {0}) IsNew (λ e _ new. new_if e new) es (all_of (λ _. Unit {0}) (λ _. tt) es))
 
-  pub united_all : (stage : Stage) → AreAllNew seen stage → AllByRecursion (λ c. is_united seen stage c ≡ has_entries stage c) (contacts stage.tallies)
-  united_all stage same = each _ (contacts stage.tallies) (λ c i. by c i (has_entries stage c) refl)
+  pub united_all : (g : Stage) → AreAllNew seen g → AllByRecursion (λ c. is_united seen g c ≡ has_entries g c) (contacts g.tallies)
+  united_all g same = each _ (contacts g.tallies) (λ c i. by c i (has_entries g c) refl)
     where
-      by : (c : Contact) → c ∈ contacts stage.tallies → (b : Bool) → has_entries stage c ≡ b → (has_entries stage c && not (is_line_remembered seen (entries_of stage c) c)) ≡ has_entries stage c
-      by c i false none = ap (λ b. b && not (is_line_remembered seen (entries_of stage c) c)) none ∙ sym none
+      those : Text → List Tally
+      those = members g.class g.grouped g.tallies
+
+      unlike : List Tally → Bool
+      unlike us = not (are_alike g.grouped (contacts us))
+
+      class_of : Contact → Text
+      class_of c = g.class (answer_to g.grouped.ours c)
+
+      texts : List Text
+      texts = map class_of (contacts g.tallies)
+
+      part : Text → List Mapping
+      part t = if unlike (those t) then group_entries g.shared g.base g.grouped (those t) else []
+
+      new : AllByRecursion IsNew (flat_map part (distinct (filter (λ t. not (bytes_eq t [])) texts)))
+      new = subst (AllByRecursion IsNew) (flat_filtered those unlike (group_entries g.shared g.base g.grouped) (distinct (filter (λ t. not (bytes_eq t [])) texts))) (all_new (stage_entries g) same)
+
+      by : (c : Contact) → c ∈ contacts g.tallies → (b : Bool) → has_entries g c ≡ b → (has_entries g c && not (is_line_remembered seen (entries_of g c) c)) ≡ has_entries g c
+      by c i false none = ap (λ b. b && not (is_line_remembered seen (entries_of g c) c)) none ∙ sym none
       by c i true some =
-          let t = stage.class (answer_to stage.grouped c) in
-          let on = sym (has_entries_is stage.shared stage.base stage.grouped stage.tallies stage.class c) ∙ some in
-          let added = subst (AllByRecursion IsNew) (added_are stage.shared stage.base stage.grouped stage.tallies stage.class) (all_new (stage_entries stage) same) in
-          let new = part_joined IsNew (part stage.shared stage.base stage.grouped stage.tallies stage.class) t (all_texts stage.shared stage.base stage.grouped stage.tallies stage.class)
-          (text_among stage.shared stage.base stage.grouped stage.tallies stage.class c i on) added in
-          ap (λ b. has_entries stage c && not b) (new_lines (entries_of stage c) c (subst (AllByRecursion IsNew) (part_on stage.shared stage.base stage.grouped stage.tallies stage.class t on) new))
-          ∙ and_true (has_entries stage c)
+          let k = class_of c in
+          let whole = and_parts (is_grouped g.class g.grouped g.tallies c) (not (are_cut (entries_of g c))) some in
+          let grouped = and_parts (not (bytes_eq k [])) (unlike (those k)) whole.0 in
+          let among = among_passing (λ t. not (bytes_eq t [])) k texts grouped.0 (at (λ c. list_any (bytes_eq (class_of c)) texts ≡ true) (contacts g.tallies) (all_among class_of (contacts g.tallies)) c i) in
+          let is : part k ≡ entries_of g c = λ j. if grouped.1 j then (if not-true (are_cut (entries_of g c)) whole.1 j then [] else entries_of g c) else [] in
+          ap (λ b. has_entries g c && not b) (new_lines (entries_of g c) c (subst (AllByRecursion IsNew) is (part_joined IsNew part k (filter (λ t. not (bytes_eq t [])) texts) among new)))
+          ∙ and_true (has_entries g c)
 
 -- ---- where nothing is selected
 
@@ -161,7 +179,7 @@ pub no_names : (s : Selection) → ((k : Text) → s.names_pass k ≡ false) →
 no_names s none = nothing_added s.shared (after_emails s) (after_emails s) s.tallies (by_name s).class (none_passes s.names_pass s.classes.by_name none (after_emails s) (contacts s.tallies)) s.seen (after_emails s)
 
 pub no_logins : (s : Selection) → ((k : Text) → s.logins_pass k ≡ false) → after_logins s ≡ after_names s
-no_logins s none = nothing_added s.shared (after_emails s) (after_all_names s) s.tallies (by_login s).class (none_passes s.logins_pass s.classes.by_login none (after_all_names s) (contacts s.tallies)) s.seen (after_names s)
+no_logins s none = nothing_added s.shared (after_emails s) (by_any_login s).grouped.ours s.tallies (by_login s).class (none_passes s.logins_pass s.classes.by_login none (by_any_login s).grouped.ours (contacts s.tallies)) s.seen (after_names s)
 
 -- ---- the text
 

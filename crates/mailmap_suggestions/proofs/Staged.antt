@@ -13,7 +13,7 @@ use Rattle.mailmap_contacts.proofs.Steps.{all_filtered}
 use Rattle.std.proofs.lemmas.Grind.{flat_map-append}
 use Rattle.mailmap_suggestions.specs.Forms.{Histories, distinct, is_shared, plus}
 use Rattle.mailmap_suggestions.specs.GroupEntries.{are_alike, are_cut, classes, contacts, email_class, email_entries, group_entries, groups, members, wanted_entries}
-use Rattle.mailmap_suggestions.specs.Suggestions.{AreGroupClasses, GroupClasses, Kind, Suggestion, after_emails, after_names, by_alike_names, by_email, by_name, by_shared_email, email_key, email_kind, email_suggestions, first_answer, have_one_name, is_of_several, login_suggestions, name_kind, name_suggestions, still_suggested, suggestion, suggestions}
+use Rattle.mailmap_suggestions.specs.Suggestions.{AreGroupClasses, GroupClasses, Kind, Suggestion, after_emails, after_all_names, by_alike_names, by_email, by_name, by_shared_email, email_key, email_kind, email_suggestions, first_answer, have_one_name, is_of_several, login_suggestions, name_kind, name_suggestions, still_suggested, suggestion, suggestions}
 use Rattle.mailmap_suggestions.specs.Stages.{AreByLogin, AreByName, added}
 use Rattle.mailmap_suggestions.proofs.Distinct.{all_of, same_bytes, somes}
 use Rattle.mailmap_suggestions.proofs.Forms.{groups_accepted}
@@ -167,7 +167,7 @@ names_suggested shared h gs =
     one g = ap (λ b. let es = if b then [] else wanted_entries shared h h g in if are_cut es then [] else es) (one_person h g)
 
 pub names_added : (shared : List Text) (c : GroupClasses) (h : Histories) (ts : List Tally) → let more = after_emails shared h ts in
-    plus more (accepted (flat_map (λ s. s.entries) (name_suggestions shared c h ts))) ≡ after_names shared c h ts
+    plus more (accepted (flat_map (λ s. s.entries) (name_suggestions shared c h ts))) ≡ after_all_names shared c h ts
 names_added shared c h ts =
     let more = after_emails shared h ts in
     ap (λ l. plus more (accepted l)) (names_suggested shared more (groups c.by_name more ts)) ∙ ap (plus more) (groups_accepted shared more more (groups c.by_name more ts))
@@ -192,7 +192,7 @@ staged shared lines h more ts emails names logins found emails_are more_is by_na
     let after : more ≡ after_emails shared h ts = more_is ∙ ap (added h) emails_are ∙ emails_added shared h ts in
     let n = subst (λ m. AreByName shared ts m names) after by_names in
     let some : GroupClasses = record { by_name = n.0; by_login = n.0 } in
-    let both : added (after_emails shared h ts) names ≡ after_names shared some h ts = ap (added (after_emails shared h ts)) n.2 ∙ names_added shared some h ts in
+    let both : added (after_emails shared h ts) names ≡ after_all_names shared some h ts = ap (added (after_emails shared h ts)) n.2 ∙ names_added shared some h ts in
     let l = subst (λ a. AreByLogin shared ts (after_emails shared h ts) a logins) both (subst (λ m. AreByLogin shared ts m (added m names) logins) after by_logins) in
     let c : GroupClasses = record { by_name = n.0; by_login = l.0 } in
     let e = email_suggestions shared h ts in

@@ -6,38 +6,26 @@ use Rattle.mailmap_entries.specs.Entries.{Mapping}
 use Rattle.mailmap_entries.specs.Folding.{Text, folded}
 use Rattle.mailmap_entries.specs.Semantics.{of_key}
 use Rattle.mailmap_suggestions.specs.Forms.{IsAnswered, alike, git_answer_to, own_key}
-use Rattle.mailmap_suggestions.specs.GroupEntries.{Agree, all_entries, are_cut, contacts, email_class, is_grouped}
-use Rattle.mailmap_suggestions.specs.GroupEntries.{members, only, proper_answer, uncut, wanted_entries}
-use Rattle.mailmap_suggestions.specs.GroupEntries.{with_classes, with_emails}
-use Rattle.mailmap_suggestions.specs.Links.{AreClassesBy, answers, login_marks, name_marks}
-use Rattle.mailmap_suggestions.specs.Suggestions.{GroupClasses, has_any, new_entries}
+use Rattle.mailmap_suggestions.specs.GroupEntries.{Agree, are_cut, contacts, is_grouped, members, only, proper_answer}
+use Rattle.mailmap_suggestions.specs.GroupEntries.{uncut, wanted_entries}
+use Rattle.mailmap_suggestions.specs.Links.{login_marks, name_marks}
+use Rattle.mailmap_suggestions.specs.Suggestions.{GroupClasses, HasClassesBy, Stage, email_stage, has_any, login_stage}
+use Rattle.mailmap_suggestions.specs.Suggestions.{name_stage, new_entries, stage_entries}
 
 -- ---- the groups of one stage
 
--- The groups are of contacts whose answers by `grouped` have one class. Their entries are made for the answers by
--- `base`, as others need not be accepted.
-pub record Stage : Type 0 where
-  pub shared : List Text
-  pub tallies : List Tally
-  pub class : Contact → Text
-  pub base : List Mapping
-  pub grouped : List Mapping
-
 -- the contacts that have the class of one
 abbrev pub group_of : Stage → Contact → List Tally
-group_of g c = members g.class (alike g.grouped) g.tallies (g.class (answer_to g.grouped c))
+group_of g c = members g.class g.grouped g.tallies (g.class (answer_to g.grouped.ours c))
 
 abbrev pub proper_of : Stage → Contact → Contact
-proper_of g c = proper_answer g.shared (alike g.grouped) (group_of g c)
+proper_of g c = proper_answer g.shared g.grouped (group_of g c)
 
 abbrev pub entries_of : Stage → Contact → List Mapping
-entries_of g c = wanted_entries g.shared (alike g.base) (alike g.grouped) (group_of g c)
-
-abbrev pub stage_entries : Stage → List Mapping
-stage_entries g = all_entries g.shared g.class (alike g.base) (alike g.grouped) g.tallies
+entries_of g c = wanted_entries g.shared g.base g.grouped (group_of g c)
 
 abbrev pub has_class : Stage → Contact → Bool
-has_class g c = not (bytes_eq (g.class (answer_to g.grouped c)) [])
+has_class g c = not (bytes_eq (g.class (answer_to g.grouped.ours c)) [])
 
 -- whether git would cut a line of its group
 abbrev pub is_cut : Stage → Contact → Bool
@@ -45,11 +33,15 @@ is_cut g c = has_class g c && are_cut (entries_of g c)
 
 -- whether its group isn't answered alike, and git would cut none of its lines
 abbrev pub has_entries : Stage → Contact → Bool
-has_entries g c = is_grouped g.class (alike g.grouped) g.tallies c && not (are_cut (entries_of g c))
+has_entries g c = is_grouped g.class g.grouped g.tallies c && not (are_cut (entries_of g c))
 
 -- the class, if git would cut no line of its group
 abbrev pub uncut_class : Stage → Contact → Text
-uncut_class g = uncut g.shared g.class (alike g.base) (alike g.grouped) g.tallies
+uncut_class g = uncut g.shared g.class g.base g.grouped g.tallies
+
+-- with the groups that pass a test
+abbrev pub selected : (Text → Bool) → Stage → Stage
+selected passes g = record g { class = only passes g.class }
 
 -- ---- lines that mailmaps remember
 
@@ -83,51 +75,26 @@ pub record Selection : Type 0 where
   pub seen : List Text
 
 abbrev pub by_email : Selection → Stage
-by_email s = record {
-  shared = s.shared;
-  tallies = s.tallies;
-  class = email_class s.shared;
-  base = s.mappings;
-  grouped = s.mappings;
-}
-
--- the mappings with the entries for emails
-abbrev pub after_emails : Selection → List Mapping
-after_emails s = with_emails s.shared s.mappings s.tallies
+by_email s = email_stage s.shared (alike s.mappings) s.tallies
 
 abbrev pub by_any_name : Selection → Stage
-by_any_name s = record {
-  shared = s.shared;
-  tallies = s.tallies;
-  class = s.classes.by_name;
-  base = after_emails s;
-  grouped = after_emails s;
-}
+by_any_name s = name_stage s.shared s.classes (alike s.mappings) s.tallies
 
--- and with those for all groups by name, as if all were accepted
-abbrev pub after_all_names : Selection → List Mapping
-after_all_names s = with_classes s.shared s.classes.by_name (after_emails s) s.tallies
+abbrev pub by_any_login : Selection → Stage
+by_any_login s = login_stage s.shared s.classes (alike s.mappings) s.tallies
 
 -- the selected ones
 abbrev pub by_name : Selection → Stage
-by_name s = record {
-  shared = s.shared;
-  tallies = s.tallies;
-  class = only s.names_pass s.classes.by_name;
-  base = after_emails s;
-  grouped = after_emails s;
-}
+by_name s = selected s.names_pass (by_any_name s)
 
 abbrev pub by_login : Selection → Stage
-by_login s = record {
-  shared = s.shared;
-  tallies = s.tallies;
-  class = only s.logins_pass s.classes.by_login;
-  base = after_emails s;
-  grouped = after_all_names s;
-}
+by_login s = selected s.logins_pass (by_any_login s)
 
--- with the lines of the selected groups by name, and then with those by login, without the remembered ones
+-- the mappings with the entries for emails, then with the lines of the selected groups by name, and then with those by
+-- login, without the remembered ones
+abbrev pub after_emails : Selection → List Mapping
+after_emails s = s.mappings ++ stage_entries (by_email s)
+
 abbrev pub after_names : Selection → List Mapping
 after_names s = after_emails s ++ new_entries s.seen (stage_entries (by_name s))
 
@@ -137,10 +104,8 @@ after_logins s = after_names s ++ new_entries s.seen (stage_entries (by_login s)
 -- The classes are those of answers with alike names, and of answers that logins link, at least if a group by login is
 -- selected.
 pub record AreLinked (s : Selection) : Type 0 where
-  pub by_name : let h = alike (after_emails s) in
-      AreClassesBy (name_marks s.shared h s.tallies) (answers h s.tallies) s.classes.by_name
-  pub by_login : (k : Text) → s.logins_pass k ≡ true → let h = alike (after_all_names s) in
-      AreClassesBy (login_marks s.shared h s.tallies) (answers h s.tallies) s.classes.by_login
+  pub by_name : HasClassesBy name_marks (by_any_name s)
+  pub by_login : (k : Text) → s.logins_pass k ≡ true → HasClassesBy login_marks (by_any_login s)
 
 -- ---- what it does
 
@@ -188,4 +153,4 @@ GetProperWith stage e g = AllByRecursion (λ c. has_entries stage c ≡ true →
 abbrev pub EachNeeded : (Contact → Bool) → Stage → Type 0
 EachNeeded left_out stage = (front rest : List Mapping) (e : Mapping) → stage_entries stage ≡ front ++ e ∷ rest
     → AllByRecursion (λ c. folded c.email ≡ folded e.old_email → left_out c ≡ false) (contacts stage.tallies)
-    → GetProperWith stage e (stage.base ++ (front ++ rest)) → ⊥
+    → GetProperWith stage e (stage.base.ours ++ (front ++ rest)) → ⊥

@@ -1,23 +1,41 @@
--- What the stages after the first suggest.
-use Rattle.std.specs.Prelude.{◌≡◌, ◌++◌, List, map}
+-- What the stages suggest, as the code has them.
+use Rattle.std.specs.Prelude.{◌≡◌, ◌++◌, List}
 use Rattle.std.specs.List.{flat_map}
 use Rattle.mailmap_contacts.specs.Contacts.{Contact, Tally}
 use Rattle.mailmap_entries.specs.Folding.{Text}
 use Rattle.mailmap_entries.specs.Semantics.{accepted}
 use Rattle.mailmap_suggestions.specs.Forms.{Histories, plus}
-use Rattle.mailmap_suggestions.specs.GroupEntries.{groups}
-use Rattle.mailmap_suggestions.specs.Links.{AreClassesBy, answers, login_marks, name_marks}
-use Rattle.mailmap_suggestions.specs.Suggestions.{Suggestion, login_kind, name_kind, still_suggested, suggestion}
+use Rattle.mailmap_suggestions.specs.Links.{login_marks, name_marks}
+use Rattle.mailmap_suggestions.specs.LinkViews.{AreLoginKeys}
+use Rattle.mailmap_suggestions.specs.Suggestions.{HasClassesBy, Kind, Stage, Suggestion, email_kind, login_kind}
+use Rattle.mailmap_suggestions.specs.Suggestions.{name_kind, stage_suggestions, still_suggested}
+use Rattle.mailmap_suggestions.specs.declared.suggestions.Common.{Common}
+use Rattle.mailmap_suggestions.specs.declared.suggestions.Common.TheVariants.{Email, Login, Name}
+
+abbrev pub stage : List Text → List Tally → Histories → Histories → (Contact → Text) → Stage
+stage shared ts base h class = record { shared = shared; tallies = ts; class = class; base = base; grouped = h }
+
+-- the kind of a group of some contacts
+abbrev pub kind_by : Common → List Text → Histories → List Tally → List Tally → Kind
+kind_by Email shared h ts g = email_kind shared h g
+kind_by Name shared h ts g = name_kind h g
+kind_by (Login keys) shared h ts g = login_kind shared h ts g
+
+-- the keys of logins are those of these contacts
+abbrev pub HasKeysOf : Common → List Text → Histories → List Tally → Type 0
+HasKeysOf Email shared h ts = Unit {0}
+HasKeysOf Name shared h ts = Unit {0}
+HasKeysOf (Login keys) shared h ts = AreLoginKeys shared h ts keys
 
 -- those by names, for these mailmaps
 abbrev pub AreByName : List Text → List Tally → Histories → List Suggestion → Type 0
-AreByName shared ts h found = (class : Contact → Text) × AreClassesBy (name_marks shared h ts) (answers h ts) class
-    × (found ≡ map (λ g. suggestion shared h h (name_kind h g) g) (groups class h ts))
+AreByName shared ts h found = (class : Contact → Text) × HasClassesBy name_marks (stage shared ts h h class)
+    × (found ≡ stage_suggestions (name_kind h) (stage shared ts h h class))
 
 -- those by logins, for mailmaps with all entries; the entries are made for `base`
 abbrev pub AreByLogin : List Text → List Tally → Histories → Histories → List Suggestion → Type 0
-AreByLogin shared ts base all found = (class : Contact → Text) × AreClassesBy (login_marks shared all ts) (answers all ts) class
-    × (found ≡ map (λ g. suggestion shared base all (login_kind shared all ts g) g) (groups class all ts))
+AreByLogin shared ts base all found = (class : Contact → Text) × HasClassesBy login_marks (stage shared ts base all class)
+    × (found ≡ stage_suggestions (login_kind shared all ts) (stage shared ts base all class))
 
 abbrev pub added : Histories → List Suggestion → Histories
 added h found = plus h (accepted (flat_map (λ s. s.entries) found))

@@ -9,7 +9,7 @@ use Rattle.mailmap_grammar.specs.Lines.{pieces}
 use Rattle.mailmap_suggestions.specs.Counted.{counted_answers, counted_git_answers}
 use Rattle.mailmap_suggestions.specs.EntryLines.{entry_line}
 use Rattle.mailmap_suggestions.specs.Forms.{Histories, is_shared, plus}
-use Rattle.mailmap_suggestions.specs.GroupEntries.{all_entries, are_cut, contacts, email_entries, groups, nobody}
+use Rattle.mailmap_suggestions.specs.GroupEntries.{all_entries, are_cut, contacts, email_class, groups, nobody}
 use Rattle.mailmap_suggestions.specs.GroupEntries.{proper_answer, wanted_entries}
 use Rattle.mailmap_suggestions.specs.Links.{AreClassesBy, answers, linking_logins, login_marks, name_marks}
 
@@ -99,40 +99,75 @@ login_kind shared h ts g = by_login (first_or_empty (flat_map (linking_logins sh
 
 -- ---- the three stages
 
--- the answers with an email, whether several people share it or not
-abbrev pub email_key : Contact → Text
-email_key a = folded a.email
+-- The groups of a stage are of contacts whose answers by `grouped` have one class. Their entries are made for the
+-- answers by `base`, as others need not be accepted.
+pub record Stage : Type 0 where
+  pub shared : List Text
+  pub tallies : List Tally
+  pub class : Contact → Text
+  pub base : Histories
+  pub grouped : Histories
+
+-- whether the classes are those of answers with marks in common
+abbrev pub HasClassesBy : (List Text → Histories → List Tally → Contact → List Text) → Stage → Type 0
+HasClassesBy marks s = AreClassesBy (marks s.shared s.grouped s.tallies) (answers s.grouped s.tallies) s.class
+
+abbrev pub stage_entries : Stage → List Mapping
+stage_entries s = all_entries s.shared s.class s.base s.grouped s.tallies
+
+abbrev pub stage_suggestions : (List Tally → Kind) → Stage → List Suggestion
+stage_suggestions kind s =
+    map (λ g. suggestion s.shared s.base s.grouped (kind g) g) (groups s.class s.grouped s.tallies)
 
 -- the classes of answers with alike names, and of those that are linked by logins
 pub record GroupClasses : Type 0 where
   pub by_name : Contact → Text
   pub by_login : Contact → Text
 
--- with the entries for emails, and with those for names as if all were accepted
-abbrev pub after_emails : List Text → Histories → List Tally → Histories
-after_emails shared h ts = plus h (email_entries shared h ts)
+-- for answers with an email that one person has
+abbrev pub email_stage : List Text → Histories → List Tally → Stage
+email_stage shared h ts = record { shared = shared; tallies = ts; class = email_class shared; base = h; grouped = h }
 
-abbrev pub after_names : List Text → GroupClasses → Histories → List Tally → Histories
-after_names shared c h ts = let more = after_emails shared h ts in plus more (all_entries shared c.by_name more more ts)
+-- with its entries
+abbrev pub after_emails : List Text → Histories → List Tally → Histories
+after_emails shared h ts = plus h (stage_entries (email_stage shared h ts))
+
+abbrev pub name_stage : List Text → GroupClasses → Histories → List Tally → Stage
+name_stage shared c h ts = let more = after_emails shared h ts in
+    record { shared = shared; tallies = ts; class = c.by_name; base = more; grouped = more }
+
+-- with the entries of both, as if all were accepted
+abbrev pub after_all_names : List Text → GroupClasses → Histories → List Tally → Histories
+after_all_names shared c h ts = plus (after_emails shared h ts) (stage_entries (name_stage shared c h ts))
+
+-- its entries are right without those for names
+abbrev pub login_stage : List Text → GroupClasses → Histories → List Tally → Stage
+login_stage shared c h ts = record {
+  shared = shared;
+  tallies = ts;
+  class = c.by_login;
+  base = after_emails shared h ts;
+  grouped = after_all_names shared c h ts;
+}
 
 pub record AreGroupClasses (shared : List Text) (h : Histories) (ts : List Tally) (c : GroupClasses) : Type 0 where
-  pub by_name : let more = after_emails shared h ts in
-      AreClassesBy (name_marks shared more ts) (answers more ts) c.by_name
-  pub by_login : let all = after_names shared c h ts in
-      AreClassesBy (login_marks shared all ts) (answers all ts) c.by_login
+  pub by_name : HasClassesBy name_marks (name_stage shared c h ts)
+  pub by_login : HasClassesBy login_marks (login_stage shared c h ts)
+
+-- the answers with an email, whether several people share it or not
+abbrev pub email_key : Contact → Text
+email_key a = folded a.email
 
 abbrev pub email_suggestions : List Text → Histories → List Tally → List Suggestion
-email_suggestions shared h ts = map (λ g. suggestion shared h h (email_kind shared h g) g) (groups email_key h ts)
+email_suggestions shared h ts =
+    stage_suggestions (email_kind shared h) (record (email_stage shared h ts) { class = email_key })
 
 abbrev pub name_suggestions : List Text → GroupClasses → Histories → List Tally → List Suggestion
-name_suggestions shared c h ts = let more = after_emails shared h ts in
-    map (λ g. suggestion shared more more (name_kind more g) g) (groups c.by_name more ts)
+name_suggestions shared c h ts = stage_suggestions (name_kind (after_emails shared h ts)) (name_stage shared c h ts)
 
--- their entries are right without those for names
 abbrev pub login_suggestions : List Text → GroupClasses → Histories → List Tally → List Suggestion
-login_suggestions shared c h ts = let all = after_names shared c h ts in
-    map (λ g. suggestion shared (after_emails shared h ts) all (login_kind shared all ts g) g)
-    (groups c.by_login all ts)
+login_suggestions shared c h ts =
+    stage_suggestions (login_kind shared (after_all_names shared c h ts) ts) (login_stage shared c h ts)
 
 -- ---- what is remembered
 

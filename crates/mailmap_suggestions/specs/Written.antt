@@ -11,7 +11,7 @@ use Rattle.mailmap_suggestions.specs.EntryLines.{is_cut_by_git}
 use Rattle.mailmap_suggestions.specs.Forms.{Histories}
 use Rattle.mailmap_suggestions.specs.GroupEntries.{IsWritableContact, groups}
 use Rattle.mailmap_suggestions.specs.SuggestedText.{entry_line, suggestion_text, suggestions_text}
-use Rattle.mailmap_suggestions.specs.Suggestions.{GroupClasses, Kind, Suggestion, after_emails, after_names}
+use Rattle.mailmap_suggestions.specs.Suggestions.{GroupClasses, Kind, Suggestion, after_emails, after_all_names}
 use Rattle.mailmap_suggestions.specs.Suggestions.{by_alike_names, by_email, by_login, by_name, by_shared_email}
 use Rattle.mailmap_suggestions.specs.Suggestions.{email_suggestions, first_answer, login_kind, name_kind}
 use Rattle.mailmap_suggestions.specs.Suggestions.{still_suggested, suggestion}
@@ -84,7 +84,7 @@ abbrev pub selected_text : List Text → GroupClasses → (Text → Bool) → (T
     → List Tally → Text
 selected_text shared c passes next_passes lines h ts =
     let more = after_emails shared h ts in
-    let all = after_names shared c h ts in
+    let all = after_all_names shared c h ts in
     suggestions_text (flat_map (still_suggested lines) (email_suggestions shared h ts))
     ++ groups_text lines passes c.by_name more ts (λ g. suggestion shared more more (name_kind more g) g)
     ++ groups_text lines next_passes c.by_login all ts (λ g. suggestion shared more all (login_kind shared all ts g) g)

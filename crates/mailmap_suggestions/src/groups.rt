@@ -1,16 +1,22 @@
 //! Puts the contacts of a history into groups.
-ghost use Rattle.std.specs.Prelude.{◌≡◌, ◌≤◌, [], All, IfOk, OnOk, bytes_eq, filter, length, map, not};
+ghost use Rattle.std.specs.Prelude.{◌≡◌, ◌≤◌, [], All, IfOk, List, OnOk, bytes_eq, filter, length, map, not};
 ghost use Rattle.mailmap_entries.specs.Folding.{Text, folded};
 ghost use Rattle.mailmap_contacts.specs.Contacts.{Contact, Tally as ATally};
 ghost use Rattle.mailmap_contacts.specs.Answers.{tally_of};
 ghost use Rattle.mailmap_suggestions.specs.Private.{contacts_of, IsPart, grouped, keyed_by, keyed_of, tallies_in};
 ghost use Rattle.mailmap_suggestions.specs.Private.{text_of, with_member};
 ghost use Rattle.mailmap_suggestions.specs.Suggestions.{email_key};
+ghost use Rattle.mailmap_suggestions.specs.Forests.{links_of};
 ghost use Rattle.mailmap_suggestions.specs.Forms.{distinct, of_old_email};
 ghost use Rattle.mailmap_suggestions.specs.GroupEntries.{are_alike, contacts, groups};
+ghost use Rattle.mailmap_suggestions.specs.Links.{AreClassesBy, answers as spec_answers};
+ghost use Rattle.mailmap_suggestions.specs.LinkViews.{AreLinksOf, AreMembers};
 
 use crate::answers::Answers;
+use crate::classes::Link;
 use crate::keys::{Key, first_value};
+use crate::links::classes_by;
+use crate::members::Member;
 use mailmap_contacts::answers::Tally;
 use mailmap_contacts::proper::has_text;
 use std::alloc::{AllocError, Global};
@@ -35,9 +41,30 @@ pub(crate) fn groups_by_email<'a>(
     Ok(groups)
 }
 
-/// The contacts whose answers have one class, unless this library and git answer all of them alike. `classes` are those
-/// of the contacts' answers; a contact with an empty one is in no group. In the order of their first members.
-pub(crate) fn groups_by_class<'a>(
+/// The contacts whose answers are linked, directly or through others, unless this library and git answer all of them
+/// alike. In the order of their first members.
+pub(crate) fn groups_by_links<'a>(
+    alloc: Global,
+    answers: &Answers<'_, 'a>,
+    contacts: &[Tally<'a>],
+    members: &[Member<'_, 'a>],
+    links: Vec<Link>,
+) -> Result<Groups<'a>, AllocError>
+    requires members { AreMembers answers.now (map tally_of contacts.now) members.now }
+    requires links { (marks_of : Contact → List Text) × AreLinksOf marks_of members.now (links_of links.items) }
+    ensures { let h = answers.now in
+        let ts = map tally_of contacts.now in
+        (marks_of : Contact → List Text) → AreLinksOf marks_of members.now (links_of links.items)
+        → IfOk result (λ found. (class : Contact → Text) × AreClassesBy marks_of (spec_answers h ts) class
+        × (map tallies_in found.items ≡ groups class h ts)) }
+{
+    let classes = classes_by(alloc, members, links)?;
+    groups_by_class(alloc, answers, contacts, classes.as_slice())
+}
+
+// The contacts whose answers have one class, if not all are answered alike. `classes` are those of the contacts'
+// answers; a contact with an empty one is in no group.
+fn groups_by_class<'a>(
     alloc: Global,
     answers: &Answers<'_, 'a>,
     contacts: &[Tally<'a>],

@@ -16,10 +16,11 @@ ghost use Rattle.mailmap_suggestions.specs.GroupEntries.{HasNoEmptyName, IsMostF
 ghost use Rattle.mailmap_suggestions.specs.GroupEntries.{candidates, contacts, email_entries, proper_answer};
 ghost use Rattle.mailmap_suggestions.specs.GroupEntries.{uncut_email_class, with_emails};
 ghost use Rattle.mailmap_suggestions.specs.Selections.{AllAgreeBut, AreAllNew, AreLinked, EachNeeded, Selection, Selects};
-ghost use Rattle.mailmap_suggestions.specs.Selections.{Stage, after_emails, after_logins, after_names, by_email, by_login};
+ghost use Rattle.mailmap_suggestions.specs.Selections.{after_emails, after_logins, after_names, by_email, by_login};
 ghost use Rattle.mailmap_suggestions.specs.Selections.{by_name, has_cut_email, has_entries, is_left_out};
-ghost use Rattle.mailmap_suggestions.specs.Selections.{is_left_out_later, is_united, stage_entries, uncut_class};
-ghost use Rattle.mailmap_suggestions.specs.Suggestions.{GroupClasses, Suggestion, new_entries, suggestions};
+ghost use Rattle.mailmap_suggestions.specs.Selections.{is_left_out_later, is_united, uncut_class};
+ghost use Rattle.mailmap_suggestions.specs.Suggestions.{GroupClasses, Stage, Suggestion, new_entries, stage_entries};
+ghost use Rattle.mailmap_suggestions.specs.Suggestions.{suggestions};
 ghost use Rattle.mailmap_suggestions.specs.SuggestedText.{count_line, entry_line, feed_unless, mark, suggestions_text};
 ghost use Rattle.mailmap_suggestions.specs.Written.{ContactHoldsNoZero, HoldsNoZero, IsWritableSuggestion};
 ghost use Rattle.mailmap_suggestions.specs.Written.{selected_text, text_with, unmarked_entries};

@@ -1,5 +1,5 @@
 //! Suggests the lines that mailmaps lack for the contacts of a history.
-ghost use Rattle.std.specs.Prelude.{◌≡◌, ◌++◌, [], IfOk, List, OnOk, bytes_eq, filter, if◌then◌else◌, map};
+ghost use Rattle.std.specs.Prelude.{◌≡◌, ◌++◌, [], IfOk, List, OnOk, bytes_eq, if◌then◌else◌, map};
 ghost use Rattle.std.specs.List.{flat_map, list_all, list_any};
 ghost use Rattle.mailmap_entries.specs.Entries.{mapping_of};
 ghost use Rattle.mailmap_entries.specs.Folding.{Text, folded};
@@ -13,26 +13,25 @@ ghost use Rattle.mailmap_suggestions.specs.Forms.{entries_to, plus};
 ghost use Rattle.mailmap_suggestions.specs.Suggestions.{AreGroupClasses, GroupClasses, is_of_several};
 ghost use Rattle.mailmap_suggestions.specs.Suggestions.{email_kind as spec_email_kind, email_suggestions};
 ghost use Rattle.mailmap_suggestions.specs.Suggestions.{first_answer as spec_first_answer};
-ghost use Rattle.mailmap_suggestions.specs.Suggestions.{lines_in, login_kind};
-ghost use Rattle.mailmap_suggestions.specs.Suggestions.{name_kind as spec_name_kind, still_suggested, suggestion};
-ghost use Rattle.mailmap_suggestions.specs.Suggestions.{suggestions};
+ghost use Rattle.mailmap_suggestions.specs.Suggestions.{lines_in, login_kind as spec_login_kind};
+ghost use Rattle.mailmap_suggestions.specs.Suggestions.{name_kind as spec_name_kind, stage_suggestions};
+ghost use Rattle.mailmap_suggestions.specs.Suggestions.{still_suggested, suggestion, suggestions};
 ghost use Rattle.mailmap_suggestions.specs.GroupEntries.{groups};
-ghost use Rattle.mailmap_suggestions.specs.Links.{AreClassesBy, answers as spec_answers, login_marks, name_marks, takes_part};
-ghost use Rattle.mailmap_suggestions.specs.LinkViews.{AreLoginKeys, AreMembers, AreWhole, answer_in};
+ghost use Rattle.mailmap_suggestions.specs.LinkViews.{AreLoginKeys, AreWhole};
 ghost use Rattle.mailmap_suggestions.specs.Private.{contacts_of, tallies_in};
 ghost use Rattle.mailmap_suggestions.specs.RememberedViews.{Remembers};
 ghost use Rattle.mailmap_suggestions.specs.Shared.{shared_emails};
-ghost use Rattle.mailmap_suggestions.specs.Stages.{AddsLater, AreByLogin, AreByName};
+ghost use Rattle.mailmap_suggestions.specs.Stages.{AddsLater, AreByLogin, AreByName, HasKeysOf, added, kind_by, stage};
 ghost use Rattle.mailmap_suggestions.specs.Views.{kind_of, listed_suggestion, suggestion_of};
 
 use crate::answers::Answers;
 use crate::counted::{counted_answers, counted_git_answers, nobody, proper_or_nobody};
 use crate::entries::entries_to;
-use crate::groups::{Groups, groups_by_class, groups_by_email};
+use crate::groups::{groups_by_email, groups_by_links};
 use crate::histories::Histories;
 pub use crate::kinds::Kind;
-use crate::links::{LoginKeys, classes_by, name_links};
-use crate::members::{Member, members_of, participants};
+use crate::links::{LoginKeys, name_links};
+use crate::members::{members_of, participants};
 use crate::remembered::Remembered;
 use crate::shared::SharedEmails;
 use crate::text::is_cut_by_git;
@@ -84,21 +83,7 @@ pub fn suggest<'a>(
         × (map suggestion_of found.items ≡ suggestions shared c (lines_in mailmaps) h ts)) }
 {
     let counted = contacts.in_order(alloc)?;
-    suggest_for_contacts(alloc, buffers, counted.as_slice())
-}
-
-fn suggest_for_contacts<'a>(
-    alloc: Global,
-    buffers: &[&'a [u8]],
-    contacts: &[Tally<'a>],
-) -> Result<Vec<Suggestion<'a>>, AllocError>
-    ensures { let mailmaps = map (λ b. b.now) buffers.now in
-        let h = histories_of mailmaps in
-        let ts = map tally_of contacts.now in
-        let shared = shared_emails h ts in
-        IfOk result (λ found. (c : GroupClasses) × AreGroupClasses shared h ts c
-        × (map suggestion_of found.items ≡ suggestions shared c (lines_in mailmaps) h ts)) }
-{
+    let contacts = counted.as_slice();
     let histories = Histories::read(alloc, buffers)?;
     let remembered = Remembered::read(alloc, buffers)?;
     let shared = SharedEmails::read(alloc, &histories, contacts)?;
@@ -125,7 +110,22 @@ fn all_stages<'a>(
     Ok(found)
 }
 
-// Appends what is suggested by names, and then by logins.
+// Stage 1.
+fn by_email<'a>(
+    alloc: Global,
+    shared: &SharedEmails<'a>,
+    histories: &Histories<'a>,
+    contacts: &[Tally<'a>],
+) -> Result<Vec<Suggestion<'a>>, AllocError>
+    ensures { IfOk result (λ found. map suggestion_of found.items
+        ≡ email_suggestions shared.now histories.now (map tally_of contacts.now)) }
+{
+    let answers = Answers::new(alloc, histories)?;
+    let groups = groups_by_email(alloc, &answers, contacts)?;
+    suggest_for_each(alloc, shared, &answers, &answers, &Common::Email, &groups)
+}
+
+// The other stages, for histories with the entries of the first: appends what they suggest.
 fn push_later<'a>(
     alloc: Global,
     shared: &SharedEmails<'a>,
@@ -138,78 +138,23 @@ fn push_later<'a>(
         histories.now (map tally_of contacts.now) (map suggestion_of found.old.items)
         (map suggestion_of found.new.items)) }
 {
-    let by_name = by_name(alloc, shared, histories, contacts)?;
-    let by_login = by_login(alloc, shared, histories, by_name.as_slice(), contacts)?;
+    let answers = Answers::new(alloc, histories)?;
+    let by_name = by_name(alloc, shared, &answers, contacts)?;
+    let by_login = by_login(
+        alloc,
+        shared,
+        histories,
+        &answers,
+        by_name.as_slice(),
+        contacts,
+    )?;
     push_new(alloc, found, by_name, remembered)?;
     push_new(alloc, found, by_login, remembered)?;
     Ok(())
 }
 
-// Stage 1.
-fn by_email<'a>(
-    alloc: Global,
-    shared: &SharedEmails<'a>,
-    histories: &Histories<'a>,
-    contacts: &[Tally<'a>],
-) -> Result<Vec<Suggestion<'a>>, AllocError>
-    ensures { IfOk result (λ found. map suggestion_of found.items
-        ≡ email_suggestions shared.now histories.now (map tally_of contacts.now)) }
-{
-    let answers = Answers::new(alloc, histories)?;
-    suggest_by_email(alloc, shared, &answers, contacts)
-}
-
-fn suggest_by_email<'a>(
-    alloc: Global,
-    shared: &SharedEmails<'a>,
-    answers: &Answers<'_, 'a>,
-    contacts: &[Tally<'a>],
-) -> Result<Vec<Suggestion<'a>>, AllocError>
-    ensures { IfOk result (λ found. map suggestion_of found.items
-        ≡ email_suggestions shared.now answers.now (map tally_of contacts.now)) }
-{
-    let groups = groups_by_email(alloc, answers, contacts)?;
-    suggest_for_emails(alloc, shared, answers, &groups)
-}
-
-fn suggest_for_emails<'a>(
-    alloc: Global,
-    shared: &SharedEmails<'a>,
-    answers: &Answers<'_, 'a>,
-    groups: &[Vec<Tally<'a>>],
-) -> Result<Vec<Suggestion<'a>>, AllocError>
-    ensures { let h = answers.now in IfOk result (λ found. map suggestion_of found.items
-        ≡ map (λ g. suggestion shared.now h h (spec_email_kind shared.now h g) g) (map tallies_in groups.now)) }
-{
-    let mut found = Vec::with_capacity(alloc, groups.len())?;
-    for group in groups {
-        let group = group.as_slice();
-        let kind = email_kind(shared, answers, group);
-        let suggestion = suggest_for(alloc, shared, answers, answers, kind, group)?;
-        found.push(suggestion)?;
-    }
-    Ok(found)
-}
-
-// Stage 2, for histories with the entries of the first.
+// Stage 2.
 fn by_name<'a>(
-    alloc: Global,
-    shared: &SharedEmails<'a>,
-    histories: &Histories<'a>,
-    contacts: &[Tally<'a>],
-) -> Result<Vec<Suggestion<'a>>, AllocError>
-    ensures { let h = histories.now in
-        let ts = map tally_of contacts.now in
-        IfOk result (λ found. (class : Contact → Text)
-        × AreClassesBy (name_marks shared.now h ts) (spec_answers h ts) class
-        × (map suggestion_of found.items
-        ≡ map (λ g. suggestion shared.now h h (spec_name_kind h g) g) (groups class h ts))) }
-{
-    let answers = Answers::new(alloc, histories)?;
-    suggest_by_name(alloc, shared, &answers, contacts)
-}
-
-fn suggest_by_name<'a>(
     alloc: Global,
     shared: &SharedEmails<'a>,
     answers: &Answers<'_, 'a>,
@@ -218,201 +163,102 @@ fn suggest_by_name<'a>(
     ensures { IfOk result (λ found. AreByName shared.now (map tally_of contacts.now) answers.now
         (map suggestion_of found.items)) }
 {
-    let groups = groups_by_name(alloc, shared, answers, contacts)?;
-    suggest_for_names(alloc, shared, answers, &groups)
-}
-
-fn suggest_for_names<'a>(
-    alloc: Global,
-    shared: &SharedEmails<'a>,
-    answers: &Answers<'_, 'a>,
-    groups: &[Vec<Tally<'a>>],
-) -> Result<Vec<Suggestion<'a>>, AllocError>
-    ensures { let h = answers.now in IfOk result (λ found. map suggestion_of found.items
-        ≡ map (λ g. suggestion shared.now h h (spec_name_kind h g) g) (map tallies_in groups.now)) }
-{
-    let mut found = Vec::with_capacity(alloc, groups.len())?;
-    for group in groups {
-        let group = group.as_slice();
-        let kind = name_kind(answers, group);
-        let suggestion = suggest_for(alloc, shared, answers, answers, kind, group)?;
-        found.push(suggestion)?;
-    }
-    Ok(found)
-}
-
-fn groups_by_name<'a>(
-    alloc: Global,
-    shared: &SharedEmails<'a>,
-    answers: &Answers<'_, 'a>,
-    contacts: &[Tally<'a>],
-) -> Result<Groups<'a>, AllocError>
-    ensures { let h = answers.now in
-        let ts = map tally_of contacts.now in
-        IfOk result (λ found. (class : Contact → Text)
-        × AreClassesBy (name_marks shared.now h ts) (spec_answers h ts) class
-        × (map tallies_in found.items ≡ groups class h ts)) }
-{
     let all = members_of(alloc, answers, contacts)?;
     let members = all.as_slice();
     let participants = participants(alloc, shared, members)?;
     let links = name_links(alloc, participants.as_slice())?;
-    let classes = classes_by(alloc, members, links)?;
-    groups_by_class(alloc, answers, contacts, classes.as_slice())
+    let groups = groups_by_links(alloc, answers, contacts, members, links)?;
+    suggest_for_each(alloc, shared, answers, answers, &Common::Name, &groups)
 }
 
-// Stage 3, for histories with the entries of the first, and the suggestions of the second.
+// Stage 3: groups by the answers with the suggestions of the second, but entries for `base`, the answers without them.
 fn by_login<'a>(
     alloc: Global,
     shared: &SharedEmails<'a>,
     histories: &Histories<'a>,
+    base: &Answers<'_, 'a>,
     by_name: &[Suggestion<'a>],
     contacts: &[Tally<'a>],
 ) -> Result<Vec<Suggestion<'a>>, AllocError>
-    ensures { let all = plus histories.now (accepted (flat_map (λ s. s.entries) (map suggestion_of by_name.now))) in
-        let ts = map tally_of contacts.now in
-        IfOk result (λ found. (class : Contact → Text)
-        × AreClassesBy (login_marks shared.now all ts) (spec_answers all ts) class
-        × (map suggestion_of found.items
-        ≡ map (λ g. suggestion shared.now histories.now all (login_kind shared.now all ts g) g)
-        (groups class all ts))) }
+    ensures { IfOk result (λ found. AreByLogin shared.now (map tally_of contacts.now) base.now
+        (added histories.now (map suggestion_of by_name.now)) (map suggestion_of found.items)) }
 {
-    if by_name.is_empty() {
-        return by_login_alone(alloc, shared, histories, contacts);
-    }
     let mut all = histories.copy(alloc)?;
     add_entries(&mut all, by_name)?;
-    by_login_in(alloc, shared, histories, &all, contacts)
+    let answers = Answers::new(alloc, &all)?;
+    suggest_by_login(alloc, shared, &*base, &answers, contacts)
 }
 
-// Where names add nothing.
-fn by_login_alone<'a>(
+fn suggest_by_login<'h, 'a>(
     alloc: Global,
     shared: &SharedEmails<'a>,
-    histories: &Histories<'a>,
-    contacts: &[Tally<'a>],
-) -> Result<Vec<Suggestion<'a>>, AllocError>
-    ensures { IfOk result (λ found. AreByLogin shared.now (map tally_of contacts.now) histories.now histories.now
-        (map suggestion_of found.items)) }
-{
-    let answers = Answers::new(alloc, histories)?;
-    suggest_for_logins(alloc, shared, &answers, &answers, contacts)
-}
-
-// For the answers of `all`; those that are suggested are for the answers of `base`.
-fn by_login_in<'a>(
-    alloc: Global,
-    shared: &SharedEmails<'a>,
-    base: &Histories<'a>,
-    all: &Histories<'a>,
-    contacts: &[Tally<'a>],
-) -> Result<Vec<Suggestion<'a>>, AllocError>
-    ensures { IfOk result (λ found. AreByLogin shared.now (map tally_of contacts.now) base.now all.now
-        (map suggestion_of found.items)) }
-{
-    let answers = Answers::new(alloc, all)?;
-    by_login_for(alloc, shared, base, &answers, contacts)
-}
-
-fn by_login_for<'a>(
-    alloc: Global,
-    shared: &SharedEmails<'a>,
-    base: &Histories<'a>,
-    answers: &Answers<'_, 'a>,
+    base: &Answers<'h, 'a>,
+    answers: &Answers<'h, 'a>,
     contacts: &[Tally<'a>],
 ) -> Result<Vec<Suggestion<'a>>, AllocError>
     ensures { IfOk result (λ found. AreByLogin shared.now (map tally_of contacts.now) base.now answers.now
         (map suggestion_of found.items)) }
 {
-    let base = Answers::new(alloc, base)?;
-    suggest_for_logins(alloc, shared, &base, answers, contacts)
-}
-
-// For the answers with all entries; those that are suggested are for the answers of `base`.
-fn suggest_for_logins<'a>(
-    alloc: Global,
-    shared: &SharedEmails<'a>,
-    base: &Answers<'_, 'a>,
-    answers: &Answers<'_, 'a>,
-    contacts: &[Tally<'a>],
-) -> Result<Vec<Suggestion<'a>>, AllocError>
-    ensures { let h = answers.now in
-        let ts = map tally_of contacts.now in
-        IfOk result (λ found. (class : Contact → Text)
-        × AreClassesBy (login_marks shared.now h ts) (spec_answers h ts) class
-        × (map suggestion_of found.items
-        ≡ map (λ g. suggestion shared.now base.now h (login_kind shared.now h ts g) g) (groups class h ts))) }
-{
     let all = members_of(alloc, answers, contacts)?;
     let members = all.as_slice();
     let taking_part = participants(alloc, shared, members)?;
     let participants = taking_part.as_slice();
-    let (keys, groups) = groups_by_login(alloc, shared, answers, contacts, members, participants)?;
-    suggest_for_each_login(alloc, shared, base, answers, &keys, &groups)
-}
-
-fn groups_by_login<'m, 'a>(
-    alloc: Global,
-    shared: &SharedEmails<'a>,
-    answers: &Answers<'_, 'a>,
-    contacts: &[Tally<'a>],
-    members: &'m [Member<'_, 'a>],
-    participants: &'m [Member<'_, 'a>],
-) -> Result<(LoginKeys<'m, 'a>, Groups<'a>), AllocError>
-    requires members { AreMembers answers.now (map tally_of contacts.now) members.now }
-    requires participants { participants.now
-        ≡ filter (λ m. takes_part shared.now answers.now (map tally_of contacts.now) (answer_in m)) members.now }
-    ensures { let h = answers.now in
-        let ts = map tally_of contacts.now in
-        IfOk result (λ found. (class : Contact → Text)
-        × AreClassesBy (login_marks shared.now h ts) (spec_answers h ts) class
-        × (map tallies_in found.1.items ≡ groups class h ts) × AreLoginKeys shared.now h ts found.0) }
-{
     let keys = LoginKeys::read(alloc, shared, members, participants)?;
     let links = keys.links(alloc, shared, participants)?;
-    let classes = classes_by(alloc, members, links)?;
-    let groups = groups_by_class(alloc, answers, contacts, classes.as_slice())?;
-    Ok((keys, groups))
+    let groups = groups_by_links(alloc, answers, contacts, members, links)?;
+    suggest_for_each(alloc, shared, base, answers, &Common::Login(keys), &groups)
 }
 
-fn suggest_for_each_login<'a>(
+// What the answers of each group of a stage have in common.
+#[derive(Drop)]
+enum Common<'m, 'a> {
+    Email,
+    Name,
+    // the login of an email and a name, by these keys
+    Login(LoginKeys<'m, 'a>),
+}
+
+// What is suggested for the groups of a stage, one after another.
+fn suggest_for_each<'h, 'a>(
     alloc: Global,
     shared: &SharedEmails<'a>,
-    base: &Answers<'_, 'a>,
-    answers: &Answers<'_, 'a>,
-    keys: &LoginKeys<'_, 'a>,
+    base: &Answers<'h, 'a>,
+    answers: &Answers<'h, 'a>,
+    common: &Common<'_, 'a>,
     grouped: &[Vec<Tally<'a>>],
 ) -> Result<Vec<Suggestion<'a>>, AllocError>
     ensures { let h = answers.now in
-        (ts : List ATally) (class : Contact → Text) → AreLoginKeys shared.now h ts keys.now
+        (ts : List ATally) (class : Contact → Text) → HasKeysOf common.now shared.now h ts
         → map tallies_in grouped.now ≡ groups class h ts → IfOk result (λ found. map suggestion_of found.items
-        ≡ map (λ g. suggestion shared.now base.now h (login_kind shared.now h ts g) g) (groups class h ts)) }
+        ≡ stage_suggestions (kind_by common.now shared.now h ts) (stage shared.now ts base.now h class)) }
 {
     let mut found = Vec::with_capacity(alloc, grouped.len())?;
     for group in grouped {
         let group = group.as_slice();
-        let suggestion = suggest_for_login(alloc, shared, base, answers, keys, group)?;
+        let kind = common_kind(alloc, shared, answers, common, group)?;
+        let suggestion = suggest_for(alloc, shared, base, answers, kind, group)?;
         found.push(suggestion)?;
     }
     Ok(found)
 }
 
-fn suggest_for_login<'a>(
+fn common_kind<'a>(
     alloc: Global,
     shared: &SharedEmails<'a>,
-    base: &Answers<'_, 'a>,
     answers: &Answers<'_, 'a>,
-    keys: &LoginKeys<'_, 'a>,
+    common: &Common<'_, 'a>,
     group: &[Tally<'a>],
-) -> Result<Suggestion<'a>, AllocError>
+) -> Result<Kind<'a>, AllocError>
     ensures { let h = answers.now in
         let g = map tally_of group.now in
-        (ts : List ATally) → AreLoginKeys shared.now h ts keys.now → AreWhole h ts g
-        → IfOk result (λ s. suggestion_of s ≡ suggestion shared.now base.now h (login_kind shared.now h ts g) g) }
+        (ts : List ATally) → HasKeysOf common.now shared.now h ts → AreWhole h ts g
+        → IfOk result (λ kind. kind_of kind ≡ kind_by common.now shared.now h ts g) }
 {
-    let members = members_of(alloc, answers, group)?;
-    let login = keys.first_login(alloc, shared, members.as_slice())?;
-    suggest_for(alloc, shared, base, answers, Kind::Login(login), group)
+    match common {
+        Common::Email => Ok(email_kind(shared, answers, group)),
+        Common::Name => Ok(name_kind(answers, group)),
+        Common::Login(keys) => login_kind(alloc, shared, answers, keys, group),
+    }
 }
 
 // What is suggested for a group: entries for the answers of `base`.
@@ -498,6 +344,23 @@ fn name_kind<'a>(answers: &Answers<'_, 'a>, group: &[Tally<'a>]) -> Kind<'a>
     } else {
         Kind::Alike
     }
+}
+
+fn login_kind<'a>(
+    alloc: Global,
+    shared: &SharedEmails<'a>,
+    answers: &Answers<'_, 'a>,
+    keys: &LoginKeys<'_, 'a>,
+    group: &[Tally<'a>],
+) -> Result<Kind<'a>, AllocError>
+    ensures { let h = answers.now in
+        let g = map tally_of group.now in
+        (ts : List ATally) → AreLoginKeys shared.now h ts keys.now → AreWhole h ts g
+        → IfOk result (λ kind. kind_of kind ≡ spec_login_kind shared.now h ts g) }
+{
+    let members = members_of(alloc, answers, group)?;
+    let login = keys.first_login(alloc, shared, members.as_slice())?;
+    Ok(Kind::Login(login))
 }
 
 // The answer to the first of a group, nobody if it is empty.
