@@ -1,12 +1,13 @@
 -- Keys with the answers that have them, one more at a time.
-use Rattle.std.proofs.Common.{◌≡◌, ◌∙◌, ◌+◌, ◌<◌, ◌++◌, ◌&&◌, ◌||◌, ℕ, Bool, true, false, cond, not, List, [], ◌∷◌, Bor, Option, None, Some, Ordering, Less, Equal, Greater, ap, append_assoc, bytes_eq, flat_map, get_or, if◌then◌else◌, length, refl, subst, sym, take, true≢false}
+use Rattle.std.proofs.Common.{◌≡◌, ◌∙◌, ◌+◌, ◌<◌, ◌++◌, ◌&&◌, ◌||◌, ℕ, Bool, true, false, cond, not, List, [], ◌∷◌, Bor, Option, None, Some, Ordering, Less, Equal, Greater, ap, append_assoc, bytes_eq, filter, flat_map, get_or, length, map, refl, subst, sym, take, true≢false}
 use Rattle.std.specs.BTreeMap.{insert_entry}
 use Rattle.std.specs.Cmp.Lexicographic.{slice_cmp}
+use Rattle.std.specs.Global.{Vec}
 use Rattle.std.specs.List.{list_any}
 use Rattle.std.specs.Map.{lookup}
 use Rattle.std.specs.Ordering.{is_eq, match_ordering, nat_cmp}
 use Rattle.std.proofs.lemmas.Cmp.{nat_list_eq_equiv}
-use Rattle.std.proofs.lemmas.List.{map-append, take_more}
+use Rattle.std.proofs.lemmas.List.{get_or-map, map-append, map_more, take_more}
 use Rattle.std.proofs.lemmas.Map.Text.{is_eq-slice_cmp}
 use Rattle.mailmap_contacts.specs.declared.answers.Tally.{Tally as TheTally}
 use Rattle.mailmap_contacts.specs.Answers.{tally_of}
@@ -16,7 +17,7 @@ use Rattle.mailmap_contacts.proofs.Steps.{made_more}
 use Rattle.mailmap_contacts.proofs.Tallied.{itself}
 use Rattle.mailmap_entries.specs.Folding.{Text}
 use Rattle.mailmap_entries.proofs.Parts.{list_any-append}
-use Rattle.mailmap_suggestions.specs.LinkViews.{HoldersOf, answer_in, contact_in, has_own, holder_of, is_another, joined, mark_cmp, mark_text, mark_texts, pairs_by, with_answer}
+use Rattle.mailmap_suggestions.specs.LinkViews.{HoldersOf, answer_in, holder_of, is_another, joined, links_to, links_with, mark_cmp, mark_text, mark_texts, own_and, pairs_by, vec_texts, with_answer}
 use Rattle.mailmap_suggestions.specs.declared.holders.Holder.{Holder}
 use Rattle.mailmap_suggestions.specs.declared.holders.Holders.{Holders}
 use Rattle.mailmap_suggestions.specs.declared.marks.Mark.{Mark}
@@ -121,29 +122,47 @@ pairs_more pairs a keys more key is =
     append_assoc pairs (with_answer a (mark_texts keys)) ((key.text.items, a) ∷ [])
     ∙ ap (λ l. pairs ++ l) (sym (map-append (λ text. (text, a)) (mark_texts keys) (key.text.items ∷ [])) ∙ ap (with_answer a) (sym (map-append mark_text keys (key ∷ [])) ∙ ap mark_texts (sym is)))
 
--- ---- the keys of a contact, after those of its answer
-
-module _ (keys_of : Contact → List Text) (m : Member) (pairs : List (Text × Contact)) (old between new : Holders) where
-  -- what one call adds
-  abbrev Adds : Holders → List Text → Type 0
-  Adds found theirs = (ps : List (Text × Contact)) → HoldersOf ps found → HoldersOf (ps ++ with_answer (answer_in m) theirs) new
-
-  pub first_added : (own theirs : List Text) (after : Holders) → has_own m ≡ true → own ≡ keys_of (answer_in m) → theirs ≡ keys_of (contact_in m).contact
-      → HoldersOf (pairs ++ with_answer (answer_in m) own) after → between ≡ after → Adds between theirs → HoldersOf (pairs ++ pairs_by keys_of m) new
-  first_added own theirs after is own_is theirs_is first same adds =
-      let a : Contact = answer_in m in
-      let both : (pairs ++ with_answer a own) ++ with_answer a theirs ≡ pairs ++ pairs_by keys_of m = append_assoc pairs (with_answer a own) (with_answer a theirs)
-      ∙ (λ i. pairs ++ (with_answer a (own_is i) ++ with_answer a (theirs_is i)))
-      ∙ ap (λ f. pairs ++ ((if f then with_answer a (keys_of a) else []) ++ with_answer a (keys_of (contact_in m).contact))) (sym is) in
-      subst (λ (l : List (Text × Contact)). HoldersOf l new) both (adds (pairs ++ with_answer a own) (subst (HoldersOf (pairs ++ with_answer a own)) (sym same) first))
-
-  pub other_added : (theirs : List Text) → has_own m ≡ false → theirs ≡ keys_of (contact_in m).contact
-      → HoldersOf pairs old → between ≡ old → Adds between theirs → HoldersOf (pairs ++ pairs_by keys_of m) new
-  other_added theirs is theirs_is all same adds =
-      let a : Contact = answer_in m in
-      let both : pairs ++ with_answer a theirs ≡ pairs ++ pairs_by keys_of m = ap (λ l. pairs ++ with_answer a l) theirs_is
-      ∙ ap (λ f. pairs ++ ((if f then with_answer a (keys_of a) else []) ++ with_answer a (keys_of (contact_in m).contact))) (sym is) in
-      subst (λ (l : List (Text × Contact)). HoldersOf l new) both (adds pairs (subst (HoldersOf pairs) (sym same) all))
+-- ---- what the members so far have
 
 pub joined_more : {X Y : Type 0} (f : X → List Y) (xs : List X) (i : ℕ) (d : X) → i < length xs → flat_map f (take (i + 1) xs) ≡ flat_map f (take i xs) ++ f (get_or xs i d)
 joined_more f xs i d lt = made_more f (take i xs) (take (i + 1) xs) (get_or xs i d) (take_more xs i d lt)
+
+-- after others that were there before
+pub joined_after : {X Y : Type 0} (f : X → List Y) (xs : List X) (i : ℕ) (d : X) (first old new : List Y) → i < length xs
+    → old ≡ first ++ flat_map f (take i xs) → new ≡ old ++ f (get_or xs i d) → new ≡ first ++ flat_map f (take (i + 1) xs)
+joined_after f xs i d first old new lt before is =
+    is ∙ ap (λ l. l ++ f (get_or xs i d)) before ∙ append_assoc first (flat_map f (take i xs)) (f (get_or xs i d))
+    ∙ ap (λ l. first ++ l) (sym (joined_more f xs i d lt))
+
+pub mapped_after : {X Y Z : Type 0} (f : X → Y) (xs : List X) (i : ℕ) (d : X) (g : Z → Y) (first : List Y) (old new : List Z) (z : Z) → i < length xs
+    → map g old ≡ first ++ map f (take i xs) → new ≡ old ++ z ∷ [] → g z ≡ f (get_or xs i d) → map g new ≡ first ++ map f (take (i + 1) xs)
+mapped_after f xs i d g first old new z lt before is one =
+    ap (map g) is ∙ map-append g old (z ∷ [])
+    ∙ (λ j. before j ++ one j ∷ [])
+    ∙ append_assoc first (map f (take i xs)) (f (get_or xs i d) ∷ [])
+    ∙ ap (λ l. first ++ l) (sym (map_more f xs i d lt))
+
+-- the texts of the marks at an index
+pub texts_at : {X : Type 0} (f : X → List Text) (marks : List (Vec Mark)) (xs : List X) (i : ℕ) (v : Vec Mark) (d : X) → i < length marks → i < length xs
+    → map vec_texts marks ≡ map f xs → vec_texts (get_or marks i v) ≡ f (get_or xs i d)
+texts_at f marks xs i v d below within are =
+    sym (get_or-map vec_texts marks i v [] below) ∙ ap (λ l. get_or l i []) are ∙ get_or-map f xs i d [] within
+
+-- ---- the keys of one more member, and the links by them
+
+pub holders_joined : (keys_of : Contact → List Text) (ms : List Member) (i : ℕ) (d : Member) (old new : Holders) (found : List Text) → i < length ms
+    → HoldersOf (flat_map (pairs_by keys_of) (take i ms)) old → found ≡ own_and keys_of (get_or ms i d)
+    → ((pairs : List (Text × Contact)) → HoldersOf pairs old → HoldersOf (pairs ++ with_answer (answer_in (get_or ms i d)) found) new)
+    → HoldersOf (flat_map (pairs_by keys_of) (take (i + 1) ms)) new
+holders_joined keys_of ms i d old new found lt are is adds =
+    subst (λ (l : List (Text × Contact)). HoldersOf l new)
+    (ap (λ texts. flat_map (pairs_by keys_of) (take i ms) ++ with_answer (answer_in (get_or ms i d)) texts) is ∙ sym (joined_more (pairs_by keys_of) ms i d lt))
+    (adds (flat_map (pairs_by keys_of) (take i ms)) are)
+
+pub links_joined : (passes : Contact → Text → Bool) (keys_of : Contact → List Text) (ms : List Member) (i : ℕ) (d : Member) (first old new : List (Text × ℕ)) (found : List Text)
+    → i < length ms → old ≡ first ++ flat_map (links_with passes keys_of) (take i ms) → found ≡ own_and keys_of (get_or ms i d)
+    → new ≡ old ++ links_to (get_or ms i d).first (filter (passes (answer_in (get_or ms i d))) found)
+    → new ≡ first ++ flat_map (links_with passes keys_of) (take (i + 1) ms)
+links_joined passes keys_of ms i d first old new found lt before is more =
+    joined_after (links_with passes keys_of) ms i d first old new lt before
+    (more ∙ ap (λ texts. old ++ links_to (get_or ms i d).first (filter (passes (answer_in (get_or ms i d))) texts)) is)

@@ -1,9 +1,8 @@
 -- The keys of names and logins, with the answers that have them, and the links of answers by these.
-use Rattle.std.proofs.Common.{◌≡◌, ◌∙◌, ◌&&◌, ◌||◌, ◌++◌, ℕ, Bool, true, false, not, List, [], ◌∷◌, Option, None, Some, ap, arith, bytes_eq, filter, flat_map, if◌then◌else◌, is_some, length, map, refl, sym, subst}
-use Rattle.std.specs.List.{list_any}
+use Rattle.std.proofs.Common.{◌≡◌, ◌∙◌, ◌&&◌, ◌||◌, ◌==◌, ◌++◌, ℕ, Bool, true, false, not, true≢false, List, [], ◌∷◌, Option, None, Some, ap, arith, bytes_eq, filter, flat_map, if◌then◌else◌, is_some, length, map, refl, sym, subst}
+use Rattle.std.specs.List.{AllByRecursion, list_any}
 use Rattle.std.proofs.lemmas.Bool.{and_from, and_parts, false_from_ne_true}
 use Rattle.std.proofs.lemmas.Cmp.{nat_list_eq_equiv}
-use Rattle.std.proofs.lemmas.List.{map-append}
 use Rattle.std.proofs.lemmas.List.Folds.{flat_map-map}
 use Rattle.std.proofs.lemmas.Map.Views.{any-filter_same}
 use Rattle.mailmap_contacts.specs.Answers.{tally_of}
@@ -16,8 +15,8 @@ use Rattle.mailmap_names.specs.Keys.{first_words, is_among, keys}
 use Rattle.mailmap_suggestions.specs.Forms.{Histories}
 use Rattle.mailmap_suggestions.specs.Links.{all_name_keys, another_has, answered_by, answers, email_keys, emails_of, first_keys, is_first_name}
 use Rattle.mailmap_suggestions.specs.Links.{login_marks, mail_keys, name_keys, names_of, participants, takes_part}
-use Rattle.mailmap_suggestions.specs.LinkViews.{AreLinksOf, AreLoginKeys, AreMembers, HoldersOf, all_login_links_of, answer_in, contact_in, has_key, has_own}
-use Rattle.mailmap_suggestions.specs.LinkViews.{holder_of, is_another, is_login_in, is_name_in, is_several, known_email_keys, links_to, login_links_of, pairs_by, with_answer}
+use Rattle.mailmap_suggestions.specs.LinkViews.{AreLinksOf, AreLoginKeys, AreMembers, HoldersOf, answer_in, contact_in, email_links_of, has_key, has_own}
+use Rattle.mailmap_suggestions.specs.LinkViews.{holder_of, is_another, is_login_in, is_name_in, is_several, known_email_keys, links_to, name_key_links_of, own_and, pairs_by}
 use Rattle.mailmap_suggestions.specs.declared.holders.Holder.{Holder}
 use Rattle.mailmap_suggestions.specs.declared.holders.Holders.{Holders}
 use Rattle.mailmap_suggestions.specs.declared.links.LoginKeys.{LoginKeys}
@@ -25,6 +24,31 @@ use Rattle.mailmap_suggestions.specs.declared.members.Member.{Member}
 use Rattle.mailmap_suggestions.proofs.Distinct.{◌∈◌, all_of, same_bytes}
 use Rattle.mailmap_suggestions.proofs.ListTests.{and_any, any_alike, any_and, any_filter, any_in, any_joined, any_of, any_pair}
 use Rattle.mailmap_suggestions.proofs.MemberMarks.{all_parts, are_links, is_same, links_by, parts_among, parts_of}
+
+-- ==== links in another order
+
+none_fails : {X : Type 0} (test : X → Bool) (xs : List X) → AllByRecursion (λ x. test x ≡ true) xs → list_any (λ x. not (test x)) xs ≡ false
+none_fails test [] all = refl
+none_fails test (x ∷ xs) all = (λ i. not (all.0 i) || none_fails test xs all.1 i)
+
+all_pass : {X : Type 0} (test : X → Bool) (xs : List X) → list_any (λ x. not (test x)) xs ≡ false → AllByRecursion (λ x. test x ≡ true) xs
+all_pass test [] is = tt
+all_pass test (x ∷ xs) is = by (test x) refl (all_pass test xs) is
+  where
+    by : (b : Bool) → test x ≡ b → (list_any (λ x. not (test x)) xs ≡ false → AllByRecursion (λ x. test x ≡ true) xs)
+        → (not b || list_any (λ x. not (test x)) xs) ≡ false → (test x ≡ true) × AllByRecursion (λ x. test x ≡ true) xs
+    by true same rest is = (same, rest is)
+    by false same rest is = absurd (true≢false is)
+
+same_links : (marks_of : Contact → List Text) (ms : List Member) (links others : List (Text × ℕ))
+    → ((p : Text × ℕ → Bool) → list_any p links ≡ list_any p others) → AreLinksOf marks_of ms others → AreLinksOf marks_of ms links
+same_links marks_of ms links others same are = record {
+  every = all_weaker ms (λ m is mark. same (λ l. bytes_eq l.0 mark && (l.1 == m.first)) ∙ is mark) are.every;
+  only = all_pass known links (same (λ l. not (known l)) ∙ none_fails known others are.only);
+}
+  where
+    known : Text × ℕ → Bool
+    known l = list_any (λ m. l.1 == m.first) ms
 
 -- ==== answers, each once
 
@@ -120,14 +144,8 @@ module _ (h : Histories) (ts : List Tally) (ms : List Member) (are : AreMembers 
     any_pair_by : (m : Member) (key : Text) (a : Contact) → list_any (λ p. bytes_eq p.0 key && not (same_contact p.1 a)) (pairs_by keys_of m)
         ≡ (is_among (parts_of h ts ms are part m) key && not (same_contact (answer_in m) a))
     any_pair_by m key a =
-        ap (list_any (λ (p : Text × Contact). bytes_eq p.0 key && not (same_contact p.1 a))) (by (has_own m))
-        ∙ list_any-map (λ (p : Text × Contact). bytes_eq p.0 key && not (same_contact p.1 a)) (λ text. (text, answer_in m)) (parts_of h ts ms are part m)
+        list_any-map (λ (p : Text × Contact). bytes_eq p.0 key && not (same_contact p.1 a)) (λ text. (text, answer_in m)) (parts_of h ts ms are part m)
         ∙ and_any (λ t. bytes_eq t key) (not (same_contact (answer_in m) a)) (parts_of h ts ms are part m)
-      where
-        by : (f : Bool) → ((if f then with_answer (answer_in m) (keys_of (answer_in m)) else []) ++ with_answer (answer_in m) (keys_of (contact_in m).contact))
-            ≡ with_answer (answer_in m) ((if f then keys_of (answer_in m) else []) ++ keys_of (contact_in m).contact)
-        by true = sym (map-append (λ text. (text, answer_in m)) (keys_of (answer_in m)) (keys_of (contact_in m).contact))
-        by false = refl
 
     module _ (takes : Contact → Bool) (key : Text) (a : Contact) where
       abbrev has : Member → Bool
@@ -337,20 +355,88 @@ module _ (h : Histories) (ts : List Tally) (ms : List Member) (are : AreMembers 
           by true is = marks_are a mark (is_known m within is mark)
           by false is = refl
 
-      one_contact : (m : Member) (c : Contact) → login_links_of shared found m c ≡ links_to m.first (login_part (answer_in m) c)
-      one_contact m c = sym (map-append (λ mark. (mark, m.first)) (filter (is_login_in found (answer_in m)) (keys c.name)) (filter (is_name_in found (answer_in m)) (email_keys shared c.email)))
-
-      links_is : (m : Member) → all_login_links_of shared found m ≡ links_by h ts ms are login_part m
-      links_is m = (λ i. (if has_own m then one_contact m (answer_in m) i else []) ++ one_contact m (contact_in m).contact i) ∙ by (has_own m)
+      -- a key that is a name has one
+      known_name : (a : Contact) (key : Text) (t : Bool) → (has_key found.names key && (is_name_in found a key && t)) ≡ (is_name_in found a key && t)
+      known_name a key t = by (holder_of found.names key) (not (is_several (holder_of found.first_names key)))
         where
-          by : (f : Bool) → ((if f then links_to m.first (login_part (answer_in m) (answer_in m)) else []) ++ links_to m.first (login_part (answer_in m) (contact_in m).contact))
-              ≡ links_to m.first ((if f then login_part (answer_in m) (answer_in m) else []) ++ login_part (answer_in m) (contact_in m).contact)
-          by true = sym (map-append (λ mark. (mark, m.first)) (login_part (answer_in m) (answer_in m)) (login_part (answer_in m) (contact_in m).contact))
-          by false = refl
+          none : (b t : Bool) → false ≡ ((b && false) && t)
+          none b t = grind arith
 
-      -- the links of all contacts that take part
-      pub login_links_are_links : (links : List (Text × ℕ)) → links ≡ flat_map (all_login_links_of shared found) ps → AreLinksOf (login_marks shared h ts) ms links
+          by : (o : Option Holder) (b : Bool) → (is_some o && ((b && is_another o a) && t)) ≡ ((b && is_another o a) && t)
+          by None b = none b t
+          by (Some holder) b = refl
+
+      module _ (p : Text × ℕ → Bool) (m : Member) where
+        abbrev passes : Text → Bool
+        passes key = p (key, m.first)
+
+        abbrev by_name : Text → Bool
+        by_name key = is_login_in found (answer_in m) key && passes key
+
+        abbrev by_email : Text → Bool
+        by_email key = is_name_in found (answer_in m) key && passes key
+
+        abbrev any_by_name : Contact → Bool
+        any_by_name c = list_any by_name (keys c.name)
+
+        abbrev any_by_email : Contact → Bool
+        any_by_email c = list_any by_email (email_keys shared c.email)
+
+        any_known : (c : Contact) → list_any by_email (known_email_keys shared found.names c.email) ≡ any_by_email c
+        any_known c =
+            any_filter by_email (has_key found.names) (email_keys shared c.email)
+            ∙ any_alike (λ key. has_key found.names key && by_email key) by_email (email_keys shared c.email)
+            (all_of (λ key. (has_key found.names key && by_email key) ≡ by_email key) (λ key. known_name (answer_in m) key (passes key)) (email_keys shared c.email))
+
+        any_own : (test : Text → Bool) (keys_of : Contact → List Text)
+            → list_any test (own_and keys_of m) ≡ ((has_own m && list_any test (keys_of (answer_in m))) || list_any test (keys_of (contact_in m).contact))
+        any_own test keys_of = by (has_own m)
+          where
+            by : (f : Bool) → list_any test ((if f then keys_of (answer_in m) else []) ++ keys_of (contact_in m).contact)
+                ≡ ((f && list_any test (keys_of (answer_in m))) || list_any test (keys_of (contact_in m).contact))
+            by true = list_any-append test (keys_of (answer_in m)) (keys_of (contact_in m).contact)
+            by false = refl
+
+        -- the links to an answer by some of the keys
+        any_linked : (test : Text → Bool) (keys_of : Contact → List Text) → list_any p (links_to m.first (filter test (own_and keys_of m)))
+            ≡ ((has_own m && list_any (λ key. test key && passes key) (keys_of (answer_in m))) || list_any (λ key. test key && passes key) (keys_of (contact_in m).contact))
+        any_linked test keys_of =
+            list_any-map p (λ key. (key, m.first)) (filter test (own_and keys_of m))
+            ∙ any_filter passes test (own_and keys_of m)
+            ∙ any_own (λ key. test key && passes key) keys_of
+
+        any_part : (c : Contact) → list_any passes (login_part (answer_in m) c) ≡ (any_by_name c || any_by_email c)
+        any_part c =
+            list_any-append passes (filter (is_login_in found (answer_in m)) (keys c.name)) (filter (is_name_in found (answer_in m)) (email_keys shared c.email))
+            ∙ (λ i. any_filter passes (is_login_in found (answer_in m)) (keys c.name) i || any_filter passes (is_name_in found (answer_in m)) (email_keys shared c.email) i)
+
+        each_link : (list_any p (email_links_of shared found.names found.first_names m) || list_any p (name_key_links_of found m))
+            ≡ list_any p (links_by h ts ms are login_part m)
+        each_link =
+            (λ i. any_linked (is_name_in found (answer_in m)) (λ c. known_email_keys shared found.names c.email) i || any_linked (is_login_in found (answer_in m)) (λ c. keys c.name) i)
+            ∙ (λ i. ((has_own m && any_known (answer_in m) i) || any_known (contact_in m).contact i) || ((has_own m && any_by_name (answer_in m)) || any_by_name (contact_in m).contact))
+            ∙ mixed (has_own m) (any_by_email (answer_in m)) (any_by_email (contact_in m).contact) (any_by_name (answer_in m)) (any_by_name (contact_in m).contact)
+            ∙ (λ i. (has_own m && sym (any_part (answer_in m)) i) || sym (any_part (contact_in m).contact) i)
+            ∙ sym (any_own passes (login_part (answer_in m)))
+            ∙ sym (list_any-map p (λ key. (key, m.first)) (own_and (login_part (answer_in m)) m))
+          where
+            mixed : (o e f n q : Bool) → (((o && e) || f) || ((o && n) || q)) ≡ ((o && (n || e)) || (q || f))
+            mixed o e f n q = grind arith
+
+      -- the links of all contacts that take part, first those by emails
+      pub login_links_are_links : (links : List (Text × ℕ))
+          → links ≡ flat_map (email_links_of shared found.names found.first_names) ps ++ flat_map (name_key_links_of found) ps
+          → AreLinksOf (login_marks shared h ts) ms links
       login_links_are_links links is =
-          are_links h ts ms are login_part (takes_part shared h ts) (login_marks shared h ts) have_login links
-          (is ∙ ap (flat_map (all_login_links_of shared found)) taken
-          ∙ (λ i. flat_map (λ m. links_is m i) (filter (λ m. takes_part shared h ts (answer_in m)) ms)))
+          same_links (login_marks shared h ts) ms links (flat_map (links_by h ts ms are login_part) ps)
+          (λ p. ap (list_any p) is
+          ∙ list_any-append p (flat_map (email_links_of shared found.names found.first_names) ps) (flat_map (name_key_links_of found) ps)
+          ∙ (λ i. any_joined p (email_links_of shared found.names found.first_names) ps i || any_joined p (name_key_links_of found) ps i)
+          ∙ any_either (λ m. list_any p (email_links_of shared found.names found.first_names m)) (λ m. list_any p (name_key_links_of found m)) ps
+          ∙ any_alike (λ m. list_any p (email_links_of shared found.names found.first_names m) || list_any p (name_key_links_of found m))
+          (λ m. list_any p (links_by h ts ms are login_part m)) ps
+          (all_of (λ m. (list_any p (email_links_of shared found.names found.first_names m) || list_any p (name_key_links_of found m))
+          ≡ list_any p (links_by h ts ms are login_part m)) (each_link p) ps)
+          ∙ sym (any_joined p (links_by h ts ms are login_part) ps))
+          (are_links h ts ms are login_part (takes_part shared h ts) (login_marks shared h ts) have_login (flat_map (links_by h ts ms are login_part) ps)
+          (ap (flat_map (links_by h ts ms are login_part)) taken))

@@ -74,6 +74,10 @@ links_to item found = map (λ mark. (mark, item)) found
 abbrev pub has_own : Member → Bool
 has_own m = m.is_first && not (same_contact (answer_in m) (contact_in m).contact)
 
+-- what a contact has, after what its answer has if that is to be read with it
+abbrev pub own_and : (Contact → List Text) → Member → List Text
+own_and keys_of m = (if has_own m then keys_of (answer_in m) else []) ++ keys_of (contact_in m).contact
+
 -- those by the names of a contact, and of its answer if that is to be read with it
 abbrev pub name_links_of : Member → List (Text × ℕ)
 name_links_of m = (if has_own m then links_to m.first (marks (answer_in m).name) else [])
@@ -99,6 +103,9 @@ mark_text m = m.text.items
 
 abbrev pub mark_texts : List Mark → List Text
 mark_texts marks = map mark_text marks
+
+abbrev pub vec_texts : Vec Mark → List Text
+vec_texts v = mark_texts v.items
 
 abbrev pub mark_cmp : Mark → Mark → Ordering
 mark_cmp a b = slice_cmp nat_cmp a.text.items b.text.items
@@ -141,8 +148,7 @@ with_answer a texts = map (λ key. (key, a)) texts
 
 -- the keys of a contact with its answer, and of that if it is to be read with it
 abbrev pub pairs_by : (Contact → List Text) → Member → List (Text × Contact)
-pairs_by keys_of m = (if has_own m then with_answer (answer_in m) (keys_of (answer_in m)) else [])
-    ++ with_answer (answer_in m) (keys_of (contact_in m).contact)
+pairs_by keys_of m = with_answer (answer_in m) (own_and keys_of m)
 
 -- the key of a name that no two first names have, of the login of another answer
 abbrev pub is_login_in : LoginKeys → Contact → Text → Bool
@@ -150,18 +156,24 @@ is_login_in found a key =
     not (is_several (holder_of found.first_names key)) && is_another (holder_of found.logins key) a
 
 -- the key of a login, of a name of another answer
+abbrev pub is_name_by : Holders → Holders → Contact → Text → Bool
+is_name_by names first_names a key = not (is_several (holder_of first_names key)) && is_another (holder_of names key) a
+
 abbrev pub is_name_in : LoginKeys → Contact → Text → Bool
-is_name_in found a key = not (is_several (holder_of found.first_names key)) && is_another (holder_of found.names key) a
+is_name_in found = is_name_by found.names found.first_names
 
--- the links of an answer by the name and the email of a contact
-abbrev pub login_links_of : List Text → LoginKeys → Member → Contact → List (Text × ℕ)
-login_links_of shared found m c = links_to m.first (filter (is_login_in found (answer_in m)) (keys c.name))
-    ++ links_to m.first (filter (is_name_in found (answer_in m)) (email_keys shared c.email))
+-- the links of an answer by the keys that pass of a contact, and by those of the answer if that is to be read with it
+abbrev pub links_with : (Contact → Text → Bool) → (Contact → List Text) → Member → List (Text × ℕ)
+links_with passes keys_of m = links_to m.first (filter (passes (answer_in m)) (own_and keys_of m))
 
--- those by a contact, and by its answer if that is to be read with it
-abbrev pub all_login_links_of : List Text → LoginKeys → Member → List (Text × ℕ)
-all_login_links_of shared found m = (if has_own m then login_links_of shared found m (answer_in m) else [])
-    ++ login_links_of shared found m (contact_in m).contact
+-- those by names
+abbrev pub name_key_links_of : LoginKeys → Member → List (Text × ℕ)
+name_key_links_of found = links_with (is_login_in found) (λ c. keys c.name)
+
+-- those by emails
+abbrev pub email_links_of : List Text → Holders → Holders → Member → List (Text × ℕ)
+email_links_of shared names first_names =
+    links_with (is_name_by names first_names) (λ c. known_email_keys shared names c.email)
 
 -- These are the keys of all answers that take part, those of logins as far as names have them; first names are those of
 -- all answers with an email.

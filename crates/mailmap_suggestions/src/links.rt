@@ -1,6 +1,6 @@
 //! Links answers with alike names, and answers by logins.
 ghost use Rattle.std.specs.Prelude.{◌≡◌, ◌==◌, ◌<◌, ◌++◌, ℕ, All, IfOk, List, OnOk, Some, filter, if◌then◌else◌};
-ghost use Rattle.std.specs.Prelude.{[], decimal, fold, length, map, option_to_list, slice_get};
+ghost use Rattle.std.specs.Prelude.{◌∷◌, [], decimal, fold, length, map, option_to_list, slice_get};
 ghost use Rattle.std.specs.List.{flat_map, list_any};
 ghost use Rattle.std.specs.Option.{option_copied};
 ghost use Rattle.mailmap_contacts.specs.Answers.{tally_of};
@@ -12,8 +12,9 @@ ghost use Rattle.mailmap_suggestions.specs.FirstLogins.{own_login, with_login};
 ghost use Rattle.mailmap_suggestions.specs.Forests.{links_of};
 ghost use Rattle.mailmap_suggestions.specs.Forms.{Histories};
 ghost use Rattle.mailmap_suggestions.specs.LinkViews.{AreLinksOf, AreLoginKeys, AreMembers, AreWhole, HoldersOf};
-ghost use Rattle.mailmap_suggestions.specs.LinkViews.{answer_in, is_login_in, is_name_in, known_email_keys, links_to};
-ghost use Rattle.mailmap_suggestions.specs.LinkViews.{login_links_of, mark_texts, name_links_of, pairs_by};
+ghost use Rattle.mailmap_suggestions.specs.LinkViews.{answer_in, email_links_of, is_login_in, is_name_by, is_name_in};
+ghost use Rattle.mailmap_suggestions.specs.LinkViews.{known_email_keys, links_to, mark_texts, name_key_links_of};
+ghost use Rattle.mailmap_suggestions.specs.LinkViews.{name_links_of, own_and, pairs_by, vec_texts};
 ghost use Rattle.mailmap_suggestions.specs.Links.{AreClassesBy, another_has, answers as spec_answers};
 ghost use Rattle.mailmap_suggestions.specs.Links.{email_keys as spec_email_keys};
 ghost use Rattle.mailmap_suggestions.specs.Links.{linking_logins, login_marks, takes_part};
@@ -22,7 +23,7 @@ ghost use Rattle.mailmap_suggestions.specs.declared.members.Member.{Member as AM
 
 use crate::classes::{Link, classes_of};
 use crate::holders::Holders;
-use crate::marks::{Mark, marks_of};
+use crate::marks::{Mark, copies, marks_of};
 use crate::members::{Member, has_own};
 use crate::shared::SharedEmails;
 use itoa::Buffer;
@@ -68,98 +69,63 @@ pub(crate) struct LoginKeys<'m, 'a> {
 }
 
 impl<'m, 'a> LoginKeys<'m, 'a> {
-    /// Those of all answers with an email, as far as first names go, and those of the answers that take part.
+    /// Those of all answers with an email, as far as first names go, and those of the answers that take part; and the
+    /// links of these by a key that a name of one and a login of another have.
     pub(crate) fn read(
         alloc: Global,
         shared: &SharedEmails<'a>,
         members: &'m [Member<'_, 'a>],
         participants: &'m [Member<'_, 'a>],
-    ) -> Result<LoginKeys<'m, 'a>, AllocError>
+    ) -> Result<(LoginKeys<'m, 'a>, Vec<Link>), AllocError>
         ensures { (h : Histories) (ts : List ATally) → AreMembers h ts members.now
             → participants.now ≡ filter (λ m. takes_part shared.now h ts (answer_in m)) members.now
-            → IfOk result (AreLoginKeys shared.now h ts) }
+            → IfOk result (λ read. AreLoginKeys shared.now h ts read.0
+            × AreLinksOf (login_marks shared.now h ts) members.now (links_of read.1.items)) }
     {
-        let names = names_of(alloc, participants)?;
-        let logins = logins_of(alloc, shared, &names, participants)?;
         let first_names = first_names_of(alloc, members)?;
-        Ok(LoginKeys {
+        let mut name_keys = Vec::with_capacity(alloc, participants.len())?;
+        let names = names_of(alloc, participants, &mut name_keys)?;
+        let mut links = Vec::new(alloc);
+        let logins = logins_of(shared, &names, &first_names, participants, &mut links)?;
+        let keys = LoginKeys {
             names,
             logins,
             first_names,
-        })
+        };
+        keys.push_name_links(&mut links, participants, &name_keys)?;
+        Ok((keys, links))
     }
 
-    /// The links of answers by a key that a name of one and a login of another have.
-    pub(crate) fn links(
-        &self,
-        alloc: Global,
-        shared: &SharedEmails<'a>,
-        participants: &[Member<'_, 'a>],
-    ) -> Result<Vec<Link>, AllocError>
-        ensures { (h : Histories) (ts : List ATally) (ms : List AMember) → AreMembers h ts ms
-            → AreLoginKeys shared.now h ts self.now
-            → participants.now ≡ filter (λ m. takes_part shared.now h ts (answer_in m)) ms
-            → IfOk result (λ links. AreLinksOf (login_marks shared.now h ts) ms (links_of links.items)) }
-    {
-        let mut links = Vec::new(alloc);
-        for member in participants {
-            if has_own(member) {
-                self.push_links(&mut links, shared, member, &member.answer)?;
-            }
-            self.push_links(&mut links, shared, member, member.contact)?;
-        }
-        Ok(links)
-    }
-
-    // Those by the name and the email of an answer, or of one of its contacts.
-    fn push_links(
-        &self,
-        links: &mut Vec<Link>,
-        shared: &SharedEmails<'a>,
-        member: &Member<'_, 'a>,
-        contact: &Tally<'a>,
-    ) -> Result<(), AllocError>
-        ensures { OnOk result (links_of links.new.items ≡ links_of links.old.items
-            ++ login_links_of shared.now self.now member.now (tally_of contact.now).contact) }
-    {
-        self.push_name_links(links, member, contact.name)?;
-        self.push_email_links(links, shared, member, contact.email)
-    }
-
+    // Those by the keys of names, which were read before.
     fn push_name_links(
         &self,
         links: &mut Vec<Link>,
-        member: &Member<'_, 'a>,
-        name: &[u8],
+        participants: &[Member<'_, 'a>],
+        name_keys: &[Vec<Mark>],
     ) -> Result<(), AllocError>
-        ensures { OnOk result (links_of links.new.items ≡ links_of links.old.items
-            ++ links_to member.now.first (filter (is_login_in self.now (answer_in member.now)) (keys name.now))) }
+        requires { length name_keys.now ≡ length participants.now }
+        ensures { map vec_texts name_keys.now ≡ map (own_and (λ c. keys c.name)) participants.now
+            → OnOk result (links_of links.new.items ≡ links_of links.old.items
+            ++ flat_map (name_key_links_of self.now) participants.now) }
     {
-        let alloc = *links.allocator();
-        let item = member.first;
-        for mark in name_keys(alloc, name)? {
-            if self.is_login_of_another(&mark, &member.answer) {
-                links.push(Link { mark, item })?;
-            }
+        for (index, member) in participants.iter().enumerate() {
+            self.push_links(links, member, &name_keys[index])?;
         }
         Ok(())
     }
 
-    fn push_email_links(
+    fn push_links(
         &self,
         links: &mut Vec<Link>,
-        shared: &SharedEmails<'a>,
         member: &Member<'_, 'a>,
-        email: &'a [u8],
+        name_keys: &[Mark],
     ) -> Result<(), AllocError>
         ensures { OnOk result (links_of links.new.items ≡ links_of links.old.items ++ links_to member.now.first
-            (filter (is_name_in self.now (answer_in member.now)) (spec_email_keys shared.now email.now))) }
+            (filter (is_login_in self.now (answer_in member.now)) (mark_texts name_keys.now))) }
     {
-        let alloc = *links.allocator();
-        let item = member.first;
-        for mark in email_keys(alloc, shared, email)? {
-            if self.is_name_of_another(&mark, &member.answer) {
-                links.push(Link { mark, item })?;
+        for key in name_keys {
+            if self.is_login_of_another(key, &member.answer) {
+                push_link(links, key, member.first)?;
             }
         }
         Ok(())
@@ -174,7 +140,7 @@ impl<'m, 'a> LoginKeys<'m, 'a> {
     fn is_name_of_another(&self, key: &Mark, answer: &Tally<'a>) -> bool
         ensures { result ≡ is_name_in self.now (tally_of answer.now).contact key.now.text.items }
     {
-        self.names.has_another(key, answer) && !self.first_names.are_several(key)
+        is_name_of_another(&self.names, &self.first_names, key, answer)
     }
 
     /// The first login that links answers of a group: as the answers first come, an answer's own email before those of
@@ -271,73 +237,123 @@ impl<'m, 'a> LoginKeys<'m, 'a> {
     }
 }
 
-// The keys of names, with the answers that have them.
+fn is_name_of_another<'a>(
+    names: &Holders<'_, 'a>,
+    first_names: &Holders<'_, 'a>,
+    key: &Mark,
+    answer: &Tally<'a>,
+) -> bool
+    ensures { result ≡ is_name_by names.now first_names.now (tally_of answer.now).contact key.now.text.items }
+{
+    names.has_another(key, answer) && !first_names.are_several(key)
+}
+
+fn push_link(links: &mut Vec<Link>, key: &Mark, item: usize) -> Result<(), AllocError>
+    ensures { OnOk result (links_of links.new.items ≡ links_of links.old.items ++ (key.now.text.items, item) ∷ []) }
+{
+    let mark = key.copy(*links.allocator())?;
+    links.push(Link { mark, item })?;
+    Ok(())
+}
+
+// The keys of names, with the answers that have them. Those of each member are appended to others.
 fn names_of<'m, 'a>(
     alloc: Global,
     participants: &'m [Member<'_, 'a>],
+    name_keys: &mut Vec<Vec<Mark>>,
 ) -> Result<Holders<'m, 'a>, AllocError>
-    ensures { IfOk result (HoldersOf (flat_map (pairs_by (λ c. keys c.name)) participants.now)) }
+    ensures names { IfOk result (HoldersOf (flat_map (pairs_by (λ c. keys c.name)) participants.now)) }
+    ensures keys { IfOk result (λ _. map vec_texts name_keys.new.items
+        ≡ map vec_texts name_keys.old.items ++ map (own_and (λ c. keys c.name)) participants.now) }
 {
     let mut names = Holders::new(alloc);
     for member in participants {
-        add_names(alloc, &mut names, member)?;
+        let keys = all_name_keys(alloc, member)?;
+        name_keys.push(copies(alloc, &keys)?)?;
+        names.add_all(keys, &member.answer)?;
     }
     Ok(names)
 }
 
-fn add_names<'m, 'a>(
-    alloc: Global,
-    names: &mut Holders<'m, 'a>,
-    member: &'m Member<'_, 'a>,
-) -> Result<(), AllocError>
-    ensures { OnOk result ((pairs : List (Text × Contact)) → HoldersOf pairs names.old
-        → HoldersOf (pairs ++ pairs_by (λ c. keys c.name) member.now) names.new) }
+// Those of a contact, after those of its answer if that is to be read with it.
+fn all_name_keys(alloc: Global, member: &Member<'_, '_>) -> Result<Vec<Mark>, AllocError>
+    ensures { IfOk result (λ found. mark_texts found.items ≡ own_and (λ c. keys c.name) member.now) }
 {
-    let answer = &member.answer;
+    let found = name_keys(alloc, member.contact.name)?;
     if has_own(member) {
-        names.add_all(name_keys(alloc, answer.name)?, answer)?;
+        return both(name_keys(alloc, member.answer.name)?, found);
     }
-    names.add_all(name_keys(alloc, member.contact.name)?, answer)
+    Ok(found)
+}
+
+fn both(own: Vec<Mark>, others: Vec<Mark>) -> Result<Vec<Mark>, AllocError>
+    ensures { IfOk result (λ found. mark_texts found.items ≡ mark_texts own.items ++ mark_texts others.items) }
+{
+    let mut found = own;
+    let mut others = others;
+    found.append(&mut others)?;
+    Ok(found)
 }
 
 // The keys of the logins of emails that names have, too, with the answers that have them. No other is asked for.
+// Appends the links by those that are names of other answers.
 fn logins_of<'m, 'a>(
-    alloc: Global,
     shared: &SharedEmails<'a>,
     names: &Holders<'_, 'a>,
+    first_names: &Holders<'_, 'a>,
     participants: &'m [Member<'_, 'a>],
+    links: &mut Vec<Link>,
 ) -> Result<Holders<'m, 'a>, AllocError>
-    ensures { IfOk result (HoldersOf
+    ensures logins { IfOk result (HoldersOf
         (flat_map (pairs_by (λ c. known_email_keys shared.now names.now c.email)) participants.now)) }
+    ensures links { IfOk result (λ _. links_of links.new.items ≡ links_of links.old.items
+        ++ flat_map (email_links_of shared.now names.now first_names.now) participants.now) }
 {
-    let mut logins = Holders::new(alloc);
+    let mut logins = Holders::new(*links.allocator());
     for member in participants {
-        add_logins(alloc, &mut logins, shared, names, member)?;
+        let keys = all_known_keys(*links.allocator(), shared, names, member)?;
+        push_email_links(links, names, first_names, member, &keys)?;
+        logins.add_all(keys, &member.answer)?;
     }
     Ok(logins)
 }
 
-fn add_logins<'m, 'a>(
+fn push_email_links<'a>(
+    links: &mut Vec<Link>,
+    names: &Holders<'_, 'a>,
+    first_names: &Holders<'_, 'a>,
+    member: &Member<'_, 'a>,
+    email_keys: &[Mark],
+) -> Result<(), AllocError>
+    ensures { OnOk result (links_of links.new.items ≡ links_of links.old.items ++ links_to member.now.first
+        (filter (is_name_by names.now first_names.now (answer_in member.now)) (mark_texts email_keys.now))) }
+{
+    for key in email_keys {
+        if is_name_of_another(names, first_names, key, &member.answer) {
+            push_link(links, key, member.first)?;
+        }
+    }
+    Ok(())
+}
+
+// Those of the email of a contact, after those of its answer if that is to be read with it.
+fn all_known_keys<'a>(
     alloc: Global,
-    logins: &mut Holders<'m, 'a>,
     shared: &SharedEmails<'a>,
     names: &Holders<'_, 'a>,
-    member: &'m Member<'_, 'a>,
-) -> Result<(), AllocError>
-    ensures { OnOk result ((pairs : List (Text × Contact)) → HoldersOf pairs logins.old
-        → HoldersOf (pairs ++ pairs_by (λ c. known_email_keys shared.now names.now c.email) member.now) logins.new) }
+    member: &Member<'_, 'a>,
+) -> Result<Vec<Mark>, AllocError>
+    ensures { IfOk result (λ found. mark_texts found.items
+        ≡ own_and (λ c. known_email_keys shared.now names.now c.email) member.now) }
 {
-    let answer = &member.answer;
+    let found = known_email_keys(alloc, shared, names, member.contact.email)?;
     if has_own(member) {
-        logins.add_all(
-            known_email_keys(alloc, shared, names, answer.email)?,
-            answer,
-        )?;
+        return both(
+            known_email_keys(alloc, shared, names, member.answer.email)?,
+            found,
+        );
     }
-    logins.add_all(
-        known_email_keys(alloc, shared, names, member.contact.email)?,
-        answer,
-    )
+    Ok(found)
 }
 
 fn known_email_keys<'a>(
@@ -364,25 +380,21 @@ fn first_names_of<'m, 'a>(
     let mut first_names = Holders::new(alloc);
     for member in members {
         if has_text(member.answer.email) {
-            add_first_names(alloc, &mut first_names, member)?;
+            first_names.add_all(all_first_words(alloc, member)?, &member.answer)?;
         }
     }
     Ok(first_names)
 }
 
-fn add_first_names<'m, 'a>(
-    alloc: Global,
-    first_names: &mut Holders<'m, 'a>,
-    member: &'m Member<'_, 'a>,
-) -> Result<(), AllocError>
-    ensures { OnOk result ((pairs : List (Text × Contact)) → HoldersOf pairs first_names.old
-        → HoldersOf (pairs ++ pairs_by (λ c. spec_first_words c.name) member.now) first_names.new) }
+// Those of the name of a contact, after those of its answer if that is to be read with it.
+fn all_first_words(alloc: Global, member: &Member<'_, '_>) -> Result<Vec<Mark>, AllocError>
+    ensures { IfOk result (λ found. mark_texts found.items ≡ own_and (λ c. spec_first_words c.name) member.now) }
 {
-    let answer = &member.answer;
+    let found = first_words(alloc, member.contact.name)?;
     if has_own(member) {
-        first_names.add_all(first_words(alloc, answer.name)?, answer)?;
+        return both(first_words(alloc, member.answer.name)?, found);
     }
-    first_names.add_all(first_words(alloc, member.contact.name)?, answer)
+    Ok(found)
 }
 
 // Whether there is no login yet for the answer that first comes at this index.

@@ -27,6 +27,15 @@ impl Mark {
         let prefix = prefix_of(&text);
         Mark { text, prefix }
     }
+
+    pub(crate) fn copy(&self, alloc: Global) -> Result<Mark, AllocError>
+        ensures { IfOk result (λ copy. copy.text.items ≡ self.now.text.items) }
+    {
+        Ok(Mark {
+            text: Vec::from_slice(alloc, &self.text)?,
+            prefix: self.prefix,
+        })
+    }
 }
 
 // The first sixteen bytes as a number. A byte past the end counts as 0.
@@ -48,6 +57,17 @@ fn first_bytes(text: &[u8]) -> [u8; 16]
     let mut bytes = [0; 16];
     bytes[..text.len()].copy_from_slice(text);
     bytes
+}
+
+/// The same marks again.
+pub(crate) fn copies(alloc: Global, marks: &[Mark]) -> Result<Vec<Mark>, AllocError>
+    ensures { IfOk result (λ copies. map (λ m. m.text.items) copies.items ≡ map (λ m. m.text.items) marks.now) }
+{
+    let mut copies = Vec::with_capacity(alloc, marks.len())?;
+    for mark in marks {
+        copies.push(mark.copy(alloc)?)?;
+    }
+    Ok(copies)
 }
 
 /// These texts as marks.

@@ -203,8 +203,7 @@ fn suggest_by_login<'h, 'a>(
     let members = all.as_slice();
     let taking_part = participants(alloc, shared, members)?;
     let participants = taking_part.as_slice();
-    let keys = LoginKeys::read(alloc, shared, members, participants)?;
-    let links = keys.links(alloc, shared, participants)?;
+    let (keys, links) = LoginKeys::read(alloc, shared, members, participants)?;
     let groups = groups_by_links(alloc, answers, contacts, members, links)?;
     suggest_for_each(alloc, shared, base, answers, &Common::Login(keys), &groups)
 }
