@@ -21,8 +21,8 @@ Explanations Prune Unneeded CountContacts Suggest ContactFindings PushEntry Push
 # Calls that don't allocate are made between these allocations of the program. So these are requests that follow each
 # other: first around the calls that accept or write nothing, and then around the others.
 IN_TURN = ["AheadOfNothing", "AfterNothing", "AfterAll"]
-# A refusal that no call reports is one of a collect, which retries with less. 114 are in names that are read for what is
-# suggested and found: of the characters of a text, of the words in it, and of those words that make a key or tell
+# A refusal that no call reports is one of a collect, which retries with less. Most are in names that are read for what
+# is suggested and found: of the characters of a text, of the words in it, and of those words that make a key or tell
 # people apart. Others are in entries, verify and unneeded, which list what they found, and in the merge that builds new
 # tables of the existing entries and the new ones, because it lists the entries. One is for less memory than a long batch
 # has, which it then keeps. Two merges of a long name build the tables anew, by seven requests each, and succeed without

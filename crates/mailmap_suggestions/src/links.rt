@@ -256,7 +256,7 @@ fn push_link(links: &mut Vec<Link>, key: &Mark, item: usize) -> Result<(), Alloc
     Ok(())
 }
 
-// The keys of names, with the answers that have them. Those of each member are appended to others.
+// The keys of names, with the answers that have them. Appends those of each member to `name_keys`, for the links.
 fn names_of<'m, 'a>(
     alloc: Global,
     participants: &'m [Member<'_, 'a>],

@@ -186,6 +186,7 @@ fn by_login<'a>(
     let mut all = histories.copy(alloc)?;
     add_entries(&mut all, by_name)?;
     let answers = Answers::new(alloc, &all)?;
+    // `base` is lent again, for as long as `all` lives.
     suggest_by_login(alloc, shared, &*base, &answers, contacts)
 }
 
